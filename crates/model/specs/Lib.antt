@@ -1,0 +1,12 @@
+pub mod Numbers
+pub mod Records
+pub mod Windows
+pub mod Rules
+pub mod Verdicts
+pub mod Tallies
+pub mod Refusals
+pub mod Trip
+pub mod Answers
+pub mod Blocks
+pub mod Report
+pub mod Cases

@@ -1,0 +1,115 @@
+"""Compares the definitions of crates/model with the trip book: the prover
+computes the definitions' answers to random lists of calls and must find them
+equal to the book's.
+
+Run: python3 tests/reckoning/compare.py [--lists 300] [--verdicts 20] [--seed 1] ..
+
+It writes a scratch repository of two crates, the model and the equations, into a
+temporary folder, and has `rt check` prove it.  The last line says how it went.
+"""
+
+import argparse
+import os
+import random
+import re
+import shutil
+import subprocess
+import sys
+import tempfile
+
+import antt
+
+ROOT = os.path.join(os.path.dirname(os.path.abspath(__file__)), '..', '..')
+MODEL = os.path.join(ROOT, 'crates', 'model')
+
+# Definition files, in the order of crates/model/specs/Lib.antt, and the names
+# that the lists themselves use.
+LIBRARY = """\
+use mathlib.Core.Bool.{true, false}
+use mathlib.Core.List.{[], _∷_}
+use mathlib.Core.Path.{_≡_, refl}
+use lib.IntN.{pos, negsuc}
+use Rattle.model.specs.declared.Finding.the-variants.{Rule, Exceeded, Clean}
+use Rattle.model.specs.Trip.{clear, declare, sample, close, read, verdict, number, judged, refused, empty}
+use Rattle.model.specs.Blocks.{wrote, unwritten}
+"""
+FILES = ('Numbers', 'Records', 'Windows', 'Rules', 'Verdicts', 'Tallies', 'Refusals',
+         'Trip', 'Blocks', 'Report')
+PER_FILE = 25
+
+
+def unfoldable_names(file):
+    """The definitions of a file that a proof must open to compute with them."""
+    with open(os.path.join(MODEL, 'specs', file + '.antt'), encoding='utf-8') as text:
+        return re.findall(r'^ *unfoldable pub (\S+) :', text.read(), re.M)
+
+
+def header_and_unfolding():
+    names = {file: unfoldable_names(file) for file in FILES}
+    uses = ''.join('use Rattle.model.specs.%s.{%s}\n' % (file, ', '.join(names[file]))
+                   for file in FILES)
+    return LIBRARY + uses, 'unfolding ' + ' '.join(sum(names.values(), []))
+
+
+def write(path, text):
+    os.makedirs(os.path.dirname(path), exist_ok=True)
+    with open(path, 'w', encoding='utf-8') as file:
+        file.write(text)
+
+
+def file_text(equations, first, header, unfolding):
+    parts = [header]
+    for k, (left, right) in enumerate(equations, first):
+        name = 'case-%d' % k
+        parts.append('%s : %s ≡ %s\n%s\n%s = refl\n' % (name, left, right, unfolding, name))
+    return '\n'.join(parts)
+
+
+def all_equations(options):
+    rng = random.Random(options.seed)
+    small = antt.small_lists(rng, options.lists)
+    drives = antt.verdict_lists(rng, options.verdicts)
+    edges = antt.edge_lists() if options.edges else []
+    tallies = antt.tally_equations(rng, options.tallies)
+    reports = antt.report_equations(rng, options.reports)
+    print('%d small lists of calls, %d drives, %d drives on a rule\'s edge, %d tallies and joins, %d reports'
+          % (len(small), len(drives), len(edges), len(tallies), len(reports)))
+    return [antt.list_equation(*calls) for calls in small + drives + edges] + tallies + reports
+
+
+def write_repository(folder, options):
+    shutil.copytree(MODEL, os.path.join(folder, 'crates', 'model'),
+                    ignore=shutil.ignore_patterns('must-fail'))
+    scratch = os.path.join(folder, 'crates', 'compared')
+    write(os.path.join(folder, 'crates.txt'), 'model:\ncompared: model\n')
+    write(os.path.join(scratch, 'src', 'lib.rt'), '// Calls with their answers.\n')
+    equations, texts = all_equations(options), header_and_unfolding()
+    starts = range(0, len(equations), PER_FILE)
+    for k, start in enumerate(starts):
+        write(os.path.join(scratch, 'specs', 'Part%d.antt' % k),
+              file_text(equations[start:start + PER_FILE], start, *texts))
+    write(os.path.join(scratch, 'specs', 'Lib.antt'),
+          ''.join('pub mod Part%d\n' % k for k in range(len(starts))))
+
+
+def main():
+    parser = argparse.ArgumentParser(description='Compare the definitions with the trip book.')
+    parser.add_argument('--lists', type=int, default=300)
+    parser.add_argument('--verdicts', type=int, default=20)
+    parser.add_argument('--tallies', type=int, default=90)
+    parser.add_argument('--reports', type=int, default=30)
+    parser.add_argument('--no-edges', dest='edges', action='store_false')
+    parser.add_argument('--seed', type=int, default=1)
+    options = parser.parse_args()
+    with tempfile.TemporaryDirectory() as folder:
+        write_repository(folder, options)
+        run = subprocess.run(['rt', 'check'], cwd=folder, text=True,
+                             stdout=subprocess.PIPE, stderr=subprocess.STDOUT)
+    if run.returncode != 0:
+        print(run.stdout)
+    print('the definitions agree' if run.returncode == 0 else 'the definitions DIFFER')
+    sys.exit(run.returncode)
+
+
+if __name__ == '__main__':
+    main()

@@ -1,0 +1,327 @@
+"""Checks of the reckoning itself: the marked cases (a) to (i) of document 01,
+the reports, the rolling recount, the edge drives, and what the generator
+reaches.  Run: python3 tests/reckoning/selftest.py
+"""
+
+import random
+import sys
+
+import antt
+import book
+import drives
+import generate
+from book import (AVERAGE, COUNT, LARGEST, PERCENTILE, SMALLEST, SUM, Sample,
+                  Trip, Window)
+
+RESULTS = []
+
+
+def check(name, got, expected):
+    passed = got == expected
+    RESULTS.append(passed)
+    print('%s %s' % ('pass' if passed else 'FAIL', name))
+    if not passed:
+        print('     got %r, expected %r' % (got, expected))
+
+
+def make_trip(windows, samples):
+    """A trip with these windows and (speed, altitude, flow, nox) samples, and
+    the answers of its sample calls."""
+    trip = Trip()
+    for window in windows:
+        assert trip.declare(book.encode_window(window))[0] == 'number'
+    answers = []
+    for second, values in enumerate(samples):
+        fields = dict(second=second, speed=0, altitude=0, temperature=2931,
+                      flow=0, nox=0, co2=0)
+        fields.update(values)
+        answers.append(trip.sample(book.encode_sample(Sample(**fields))))
+    return trip, answers
+
+
+def window(function, channel, width, condition=0, low=0, high=3000):
+    return Window(function, channel, condition, 0, width, 0, low, high)
+
+
+# --- Marked cases ------------------------------------------------------------
+
+def case_a():
+    """Figure 1: values 4, 1, 3, 2, the second and fourth unqualified, w 3."""
+    sums = []
+    values = [(4, 1), (1, 0), (3, 1), (2, 0)]   # value, condition value
+    for n in range(1, 5):
+        trip, _ = make_trip([window(SUM, 0, 3, condition=4, low=1, high=1)],
+                            [dict(speed=v, nox=q) for v, q in values[:n]])
+        sums.append(trip.read(0))
+    check('(a) sums', sums, [('number', k) for k in (4, 4, 7, 3)])
+
+
+def case_b():
+    """Largest, w 3, values 5, 3, 3: 4 moves; then 7: 7 moves."""
+    trip, answers = make_trip([window(LARGEST, 0, 3)],
+                              [dict(speed=v) for v in (5, 3, 3, 7)])
+    check('(b) moves', answers[2:], [('number', 4), ('number', 7)])
+    check('(b) held', trip.held(0), [3])
+
+
+def case_c():
+    check('(c) percentile of 1..20', book.percentile(list(range(1, 21))), 19)
+    check('(c) percentile of 1..21', book.percentile(list(range(1, 22))), 20)
+    for top, expected in ((20, 19), (21, 20)):
+        trip, _ = make_trip([window(PERCENTILE, 0, 600)],
+                            [dict(speed=v) for v in range(1, top + 1)])
+        check('(c) read of 1..%d' % top, trip.read(0), ('number', expected))
+
+
+def case_d():
+    check('(d) empty report', book.report(b''),
+          b'samples 0\nbroken 000384e1\nverdict rule 0\n')
+    one = book.encode_sample(Sample(0, 1700, 100, 2931, 0, 0, 0))
+    check('(d) report of one sample', book.report(one),
+          b'samples 1\nbroken 00038cfd\nverdict rule 0\n')
+    check('report of 15 bytes', book.report(one[:15]), b'refused 1 at 0\n')
+    check('report of a second out of turn', book.report(one + one),
+          b'refused 3 at 1\n')
+
+
+def case_e():
+    for nox, mark in ((50, 0), (51, 1)):
+        trip, _ = make_trip([], [dict(speed=500, flow=500, nox=nox)])
+        check('(e) NOx %d' % nox, trip.verdict()[2], mark)
+
+
+def case_f():
+    for stops, broken in ((5, 1), (6, 0), (30, 0), (31, 1)):
+        trip, _ = make_trip([], [dict(speed=0)] * stops + [dict(speed=300)] * (100 - stops))
+        check('(f) %d stops' % stops, trip.verdict()[1] >> 8 & 1, broken)
+
+
+def case_g():
+    for p95, broken in ((48003, False), (48004, True)):
+        for count in (1, 100):
+            check('(g) P95 %d, N %d' % (p95, count),
+                  book.above_percentile_line(p95, 300 * count, count), broken)
+
+
+def case_h():
+    check('(h) A of 7', book.accelerating(7), False)
+    check('(h) A of 8', book.accelerating(8), True)
+
+
+def case_i():
+    trip, _ = make_trip([window(AVERAGE, 1, 5)], [dict(altitude=-3), dict(altitude=-4)])
+    check('(i) average of -3 and -4', trip.read(0), ('number', -4))
+
+
+# --- The examples of the refusal table ---------------------------------------
+
+def refusal_examples():
+    good = book.encode_sample(Sample(0, 0, 0, 2931, 0, 0, 0))
+    wide = book.encode_window(window(SMALLEST, 0, 3))
+    check('1 sample of 15 bytes', Trip().sample(good[:15]), ('refused', 1))
+    trip = Trip()
+    check('2 close twice', [trip.close(), trip.close()], [('number', 0), ('refused', 2)])
+    first_one = book.encode_sample(Sample(1, 0, 0, 2931, 0, 0, 0))
+    check('3 first second 1', Trip().sample(first_one), ('refused', 3))
+    fast = book.encode_sample(Sample(0, 3001, 0, 2931, 0, 0, 0))
+    check('4 speed 3001', Trip().sample(fast), ('refused', 4))
+    block = b''.join(book.encode_sample(Sample(k, 0, 0, 2931, 0, 0, 0)) for k in range(7202))
+    check('5 sample 7202', book.report(block), b'refused 5 at 7201\n')
+    check('5 block of 7202', book.tally_block(block, 104), ('refused', 5))
+    check('6 width 0', Trip().declare(book.encode_window(window(COUNT, 0, 0))), ('refused', 6))
+    trip = Trip()
+    check('7 declare, second 0, declare',
+          [trip.declare(wide), trip.sample(good), trip.declare(wide)],
+          [('number', 0), ('number', 1), ('refused', 7)])
+    trip = Trip()
+    check('8 the 17th', [trip.declare(wide) for _ in range(17)],
+          [('number', k) for k in range(16)] + [('refused', 8)])
+    check('9 read 0 when fresh', Trip().read(0), ('refused', 9))
+    trip = Trip()
+    trip.declare(wide)
+    check('10 read before sampling', trip.read(0), ('refused', 10))
+    full = book.tally_block(block[:-16], 104)
+    one = book.tally_block(good, 104)
+    check('11 output of 103 bytes', book.tally_block(b'', 103), ('refused', 11))
+    crooked = book.TALLY_LAYOUT.pack(0, 0, 0, 1, 0, 0, 0, 0, 0, 0, 0, 0, 0)
+    check('12 S of u 1, N 0', book.join(crooked, one, 104), ('refused', 12))
+    check('12 tally of 103 bytes', book.join(one, one[:103], 104), ('refused', 12))
+    check('13 7201 and 1', book.join(full, one, 104), ('refused', 13))
+    check('tally of nothing', book.tally_block(b'', 104), bytes(104))
+    half = 16 * 3600
+    check('tallies of two parts join to the whole',
+          book.join(book.tally_block(block[:half], 104),
+                    book.tally_block(block[half:-16], 104), 104), full)
+
+
+# --- The rolling recount -----------------------------------------------------
+
+def recount(seed, lists):
+    rng = random.Random(seed)
+    differing = 0
+    for _ in range(lists):
+        top = rng.choice((2, 5, 3000))
+        windows = [window(rng.choice((SMALLEST, LARGEST)), 0, rng.choice((1, 2, 3, 5, 20)),
+                          condition=4, low=0, high=rng.choice((0, 1, 3)))
+                   for _ in range(rng.randint(1, 4))]
+        samples = [Sample(k, rng.randint(0, top), 0, 2931, 0, rng.randint(0, 3), 0)
+                   for k in range(rng.randint(1, 60))]
+        slow = [book.moves(windows, samples[:k + 1]) for k in range(len(samples))]
+        differing += slow != book.moves_fast(windows, samples)
+    check('moves_fast equals moves on %d lists' % lists, differing, 0)
+
+
+# --- The definitions, word for word ------------------------------------------
+
+def literal_percentile(values):
+    return min(v for v in values
+               if 100 * sum(1 for x in values if x <= v) >= 95 * len(values))
+
+
+def literal_held(window, samples):
+    """Held: in the window, and no later qualifying one there is as extreme."""
+    there = [s for s in samples[-window.width:]
+             if window.low <= s.nox <= window.high]
+    if window.function == SMALLEST:
+        return [s.second for s in there
+                if not any(t.second > s.second and t.speed <= s.speed for t in there)]
+    return [s.second for s in there
+            if not any(t.second > s.second and t.speed >= s.speed for t in there)]
+
+
+def definitions(seed, lists):
+    rng = random.Random(seed)
+    percentiles = held = 0
+    for _ in range(lists):
+        values = [rng.randint(-9, 9) for _ in range(rng.randint(1, 60))]
+        percentiles += book.percentile(values) != literal_percentile(values)
+        some = window(rng.choice((SMALLEST, LARGEST)), 0, rng.choice((1, 2, 3, 5, 20)),
+                      condition=4, low=0, high=rng.choice((0, 1, 3)))
+        samples = [Sample(k, rng.randint(0, 5), 0, 2931, 0, rng.randint(0, 3), 0)
+                   for k in range(rng.randint(0, 30))]
+        held += book.held_entries(some, samples) != literal_held(some, samples)
+    check('percentiles by the definition', percentiles, 0)
+    check('held entries by the definition', held, 0)
+
+
+# --- Drives ------------------------------------------------------------------
+
+def bit_of(verdict, bit):
+    return verdict[2] if bit == 'exceeded' else verdict[1] >> bit & 1
+
+
+def edge_drives():
+    """The intended bit alone tells the two sides of each edge apart; whole
+    drives are clean on one side and break that rule alone on the other."""
+    reached = set()
+    for edge in drives.all_edges():
+        kept, broken = book.verdict_of(edge.kept), book.verdict_of(edge.broken)
+        check('edge: %s' % edge.name,
+              (bit_of(kept, edge.bit), bit_of(broken, edge.bit)), (0, 1))
+        reached.add((edge.bit, edge.whole))
+        if not edge.whole:
+            continue
+        expected = ((0, 1, 32) if edge.bit == 'exceeded'
+                    else (1 << edge.bit, broken[2], edge.bit))
+        check('edge: %s, otherwise clean' % edge.name, (kept[1:], broken[1:]),
+              ((0, 0, 33), expected))
+    check('every rule has a whole edge drive',
+          sorted(bit for bit, whole in reached if whole and bit != 'exceeded'),
+          list(range(21)))
+
+
+def line_sides():
+    """The rural edges lie on the intended sides of 746 x N."""
+    def side(drive):
+        speeds = [s.speed for s in drive if book.speed_class(s.speed) == book.RURAL]
+        return 'first' if sum(speeds) <= 746 * len(speeds) else 'second'
+    sides = {edge.name: (side(edge.kept), side(edge.broken))
+             for edge in drives.percentile_edges()}
+    check('rural line below 746', sides['rural line, below 746'], ('first', 'first'))
+    check('rural line above 746', sides['rural line, above 746'], ('second', 'second'))
+    check('rural lines at 746', sides['the two rural lines at 746'], ('first', 'second'))
+
+
+def whole_drives():
+    for n, word, text in ((5399, 0, b'rule 0'), (5400, 33, b'clean'),
+                          (7200, 33, b'clean'), (7201, 1, b'rule 1')):
+        drive = drives.clean_drive(n)
+        check('clean drive of %d samples' % n, (len(drive), book.verdict_of(drive)[3]),
+              (n, word))
+        check('its report', book.report(drives.block_of(drive)).splitlines()[2],
+              b'verdict ' + text)
+    for n in (5400, 7200):
+        check('exceeded drive of %d samples' % n, book.verdict_of(drives.exceeded_drive(n)),
+              ('verdict', 0, 1, 32))
+    check('its report', book.report(drives.block_of(drives.exceeded_drive())),
+          b'samples 5400\nbroken 00000000\nverdict exceeded\n')
+
+
+# --- What the lists reach ----------------------------------------------------
+
+def random_lists():
+    rng = random.Random(1)
+    lists = [generate.random_list(rng) for _ in range(2000)]
+    lists += generate.named_lists().values()
+    reached = generate.coverage(lists)
+    wanted = [(kind, 0) for kind in ('clear', 'declare', 'sample', 'close', 'read', 'verdict')]
+    wanted += [('sample', k) for k in (1, 2, 3, 4)] + [('close', 2)]
+    wanted += [('declare', k) for k in (1, 2, 6, 7, 8)] + [('read', 9), ('read', 10)]
+    wanted += [(f, 'positive') for f in range(6)] + [(f, 'negative') for f in range(1, 6)]
+    check('random lists reach every answer', [w for w in wanted if w not in reached], [])
+    small = antt.small_lists(random.Random(1), 300)
+    reached = generate.coverage(small)
+    check('small lists reach every answer', [w for w in wanted if w not in reached], [])
+    again = [generate.random_list(rng) for rng in [random.Random(1)] for _ in range(50)]
+    check('the same seed gives the same lists', again, lists[:50])
+    calls, answers = generate.full_trip_list()
+    check('after 7201 samples', answers[7202:7207],
+          [('refused', 5)] * 3 + [('refused', 1), ('number', 0)])
+    # the rolling recount against the rereading book, on whole lists of calls
+    differing = 0
+    for calls, answers in lists:
+        differing += book.replay(calls, book.LongTrip()) != answers
+    check('LongTrip answers as Trip on %d lists' % len(lists), differing, 0)
+    calls, answers = generate.long_list(random.Random(2), 700, windows=8)
+    check('LongTrip answers as Trip on a list of 700 samples', book.replay(calls), answers)
+
+
+def tally_cases():
+    rng = random.Random(1)
+    answers = set()
+    for _ in range(3000):
+        kind, value = generate.tally_case(rng).split(' -> ')[1].split()
+        answers.add('bytes' if kind == 'bytes' else kind + ' ' + value)
+    check('tally cases reach every answer', sorted(answers),
+          ['bytes', 'refused 1', 'refused 11', 'refused 12', 'refused 13', 'refused 4'])
+
+
+def small_drives():
+    for calls, answers in antt.verdict_lists(random.Random(1), 20):
+        samples = [book.decode_sample(call[1]) for call in calls[:-1]]
+        lively = [drives.accelerating_count(samples, c) for c in book.CLASSES]
+        if not (60 <= len(samples) <= 90 and min(lively) > 0):
+            check('a drive of 60 to 90 samples, accelerating in all classes', False, True)
+            return
+    check('drives of 60 to 90 samples, accelerating in all classes', True, True)
+
+
+def main():
+    for case in (case_a, case_b, case_c, case_d, case_e, case_f, case_g, case_h, case_i):
+        case()
+    refusal_examples()
+    recount(1, 300)
+    definitions(1, 500)
+    edge_drives()
+    line_sides()
+    whole_drives()
+    random_lists()
+    tally_cases()
+    small_drives()
+    failed = RESULTS.count(False)
+    print('%d passed, %d failed' % (RESULTS.count(True), failed))
+    return 1 if failed else 0
+
+
+if __name__ == '__main__':
+    sys.exit(main())

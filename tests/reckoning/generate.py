@@ -221,6 +221,22 @@ def long_list(rng, samples, windows=16, widths=(1, 2, 3, 5, 17, 100, 599, 600), 
     return maker.calls, maker.answers
 
 
+def read_each_list(rng, samples, windows=16, widths=(1, 2, 3, 5, 599, 600)):
+    """Every window read after every sample: mixed windows, the functions in turn."""
+    maker = Maker(rng, samples, 0, trip=LongTrip())
+    for number in range(windows):
+        window = random_window(rng, maker.style)
+        maker.make(('declare', book.encode_window(
+            window._replace(function=number % 6, width=rng.choice(widths)))))
+    for _ in range(samples):
+        maker.sample()
+        if rng.random() < 0.02:
+            maker.style = rng.choice(STYLES)
+        for number in range(windows):
+            maker.make(('read', number))
+    return maker.calls, maker.answers
+
+
 def drive_list(drive):
     """A drive as a list of calls: its samples, then a verdict."""
     calls = drives.calls_of(drive)
@@ -374,18 +390,40 @@ def random_tally(rng):
     return (tally + tally)[:rng.choice((0, 103, 105, 208))] if rng.random() < 0.05 else tally
 
 
+def tally_line(block, out_length):
+    """One text line: the tally of a block."""
+    answer = book.tally_block(block, out_length)
+    text = 'bytes ' + answer.hex() if isinstance(answer, bytes) else answer_text(answer)
+    return 'tally %s %d -> %s\n' % (hex_text(block), out_length, text)
+
+
+def named_tallies():
+    """Blocks of no record, of one, of 7,201 and 7,202, of damaged lengths, with a value at each
+    edge of each range, and with several refusals at once."""
+    drive = drives.block_of(drives.clean_drive(7200)) + drives.block_of(drives.drive_of([500, 3000]))
+    one = drive[:16]
+    bad = book.encode_sample(book.decode_sample(one)._replace(speed=3001))
+    blocks = [b'', one, drive[:16 * 7201], drive, drive[:16 * 7201] + b'x', drive + b'x',
+              drive[:16 * 7200] + bad, drive[:16 * 7201] + bad, bad, one + bad, bad + one]
+    blocks += [one[:n] for n in range(1, 16)] + [one * 2 + one[:n] for n in (1, 8, 15)]
+    for field in book.RANGES:
+        for values in field_edges(field):
+            for value in values:
+                blocks.append(book.encode_sample(book.decode_sample(one)._replace(**{field: value})))
+    lengths = [(block, book.TALLY_LENGTH) for block in blocks]
+    lengths += [(block, n) for block in (b'', one, bad, b'x', drive) for n in (0, 1, 103, 105, 208)]
+    return [tally_line(block, n) for block, n in lengths]
+
+
 def tally_case(rng):
     """One text line: a tally of a block, or a joining of two tallies."""
     out_length = random_out_length(rng)
     if rng.random() < 0.4:
-        block = random_block(rng)
-        call, answer = 'tally ' + hex_text(block), book.tally_block(block, out_length)
-    else:
-        a, b = random_tally(rng), random_tally(rng)
-        call = 'join %s %s' % (hex_text(a), hex_text(b))
-        answer = book.join(a, b, out_length)
+        return tally_line(random_block(rng), out_length)
+    a, b = random_tally(rng), random_tally(rng)
+    answer = book.join(a, b, out_length)
     text = 'bytes ' + answer.hex() if isinstance(answer, bytes) else answer_text(answer)
-    return '%s %d -> %s\n' % (call, out_length, text)
+    return 'join %s %s %d -> %s\n' % (hex_text(a), hex_text(b), out_length, text)
 
 
 # --- Text --------------------------------------------------------------------
@@ -440,6 +478,8 @@ def main():
     parser.add_argument('--long', type=int, default=0, help='lists of many samples, 16 windows')
     parser.add_argument('--long-samples', type=int, default=2000)
     parser.add_argument('--verdicts', type=int, default=0, help='random drives of 60 to 400 samples')
+    parser.add_argument('--reads', type=int, default=0,
+                        help='lists that read every window after every sample')
     parser.add_argument('--tallies', type=int, default=0, help='tallies of blocks and joinings')
     parser.add_argument('--named', action='store_true', help='the fixed lists too')
     parser.add_argument('--drives', action='store_true', help='the edge drives too (large)')
@@ -456,6 +496,13 @@ def main():
     for k in range(options.verdicts):
         make = verdict_each_list if k % 5 == 4 else verdict_list
         write(list_text('drive-%d' % k, *make(rng, rng.randint(60, 400))))
+    for k in range(options.reads):
+        windows = (16, 1, 2, 6)[k % 4]
+        samples = 1300 if k == 0 else rng.randint(5, 40)
+        write(list_text('reads-%d' % k, *read_each_list(rng, samples, windows)))
+    if options.tallies:
+        for line in named_tallies():
+            write(line)
     for _ in range(options.tallies):
         write(tally_case(rng))
     if options.drives:

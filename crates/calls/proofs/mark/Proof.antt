@@ -1,0 +1,11 @@
+use borrow.Author.Needs.{needs}
+use Rattle.calls.specs.Area.{partsOf}
+use Rattle.calls.proofs.mark.Statement.{statement}
+use Rattle.calls.proofs.mark.Tie as tie
+
+returns : tie.Need-returns
+unfolding partsOf
+returns c = c .get-u32 .ensures
+
+pub mark-spec : {M : Type 1} → statement M
+mark-spec = tie.close (tie.spec (λ c κs. search needs) returns)

@@ -1,0 +1,13 @@
+use borrow.Author.Needs.{needs}
+use Rattle.calls.specs.Area.{partsOf}
+use Rattle.calls.proofs.read_tally.Statement.{statement}
+use Rattle.calls.proofs.read_tally.Tie as tie
+
+returns : tie.Need-returns
+unfolding partsOf
+returns c = c .read .ensures
+
+pub read-tally-spec : {M : Type 1} → statement M
+read-tally-spec =
+    tie.close
+    (tie.spec (λ c κs. search needs) returns)

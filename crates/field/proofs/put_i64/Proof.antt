@@ -1,0 +1,17 @@
+-- `field::put_i64` meets its contract. Assumes nothing.
+use mathlib.Core.Path.{ap, _∙_}
+use mir.Syntax.{w64}
+use mir.ValLaws.{toZ-ofZ}
+use borrow.Author.Needs.{needs}
+use Rattle.field.specs.Le.{putLe}
+use Rattle.field.proofs.put_i64.Statement.{statement}
+use Rattle.field.proofs.put_i64.Tie as tie
+
+returns : tie.Need-returns
+returns c =
+    let start = c .before .before .before .before .before .before in
+    c .before .before .put-le .ensures ∙ ap (putLe 8 _ _) (rw (toZ-ofZ w64 (start .args .v) (start .fits .v)) at (c .before .before .before .to-bits .ensures))
+
+pub put-i64-spec : {M : Type 1} → statement M
+put-i64-spec =
+    tie.close (tie.spec (λ c κs. search needs) (λ c κs. search needs) (λ c. search needs) returns)

@@ -1,0 +1,4 @@
+pub mod Part
+pub mod Le
+pub mod Twos
+pub mod Cells

@@ -1,0 +1,25 @@
+-- `limits::class_of` meets its contract: the upper limits are 600 and 900. Assumes nothing.
+use Prim.Native.Nat.{ℕ}
+use native.Mathlib.Omega.{arith}
+use borrow.Author.Needs.{needs}
+use borrow.Author.Tests.{le-leb, lt-leb}
+use Rattle.model.specs.Records.{tenths}
+use Rattle.limits.specs.Table.{row, figure}
+use Rattle.limits.specs.Class.{classOf}
+use Rattle.limits.proofs.class_of.Statement.{statement}
+use Rattle.limits.proofs.class_of.Tie as tie
+
+returns : tie.Need-returns
+unfolding figure row classOf
+returns c = rw (le-leb (tenths (c .before .before .before .args .v)) 600 (omega arith))
+
+returns-2 : tie.Need-returns-2
+unfolding figure row classOf
+returns-2 c = let v : ℕ = tenths (c .before .before .before .before .before .args .v) in rw (lt-leb v 600 (omega arith), le-leb v 900 (omega arith))
+
+returns-3 : tie.Need-returns-3
+unfolding figure row classOf
+returns-3 c = let v : ℕ = tenths (c .before .before .before .before .before .args .v) in rw (lt-leb v 600 (omega arith), lt-leb v 900 (omega arith))
+
+pub class-of-spec : {M : Type 1} → statement M
+class-of-spec = tie.close (tie.spec (λ c. search needs) (λ c κs. search needs) returns (λ c κs. search needs) returns-2 returns-3)

@@ -1,0 +1,11 @@
+-- `limits::intercept` meets its contract. Assumes nothing.
+use borrow.Author.Needs.{needs}
+use Rattle.limits.specs.Line.{most}
+use Rattle.limits.proofs.intercept.Statement.{statement}
+use Rattle.limits.proofs.intercept.Tie as tie
+
+returns : tie.Need-returns
+returns c = (c .figure .ensures, rw (c .figure .ensures) (most (c .before .args .c) (c .before .args .line) (c .before .pre) .1 .1))
+
+pub intercept-spec : {M : Type 1} → statement M
+intercept-spec = tie.close (tie.spec (λ c. search needs) (λ c. search needs) (λ c κs. search needs) returns)

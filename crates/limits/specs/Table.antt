@@ -1,0 +1,50 @@
+-- The figures of a class, in the order of the table's rows: the upper speed, the least and the most share in percent, and of each of the two
+-- percentile lines factor, slope and intercept. Assumes nothing.
+use mathlib.Core.List.{List, [], _∷_}
+use Prim.Native.Nat.{ℕ, _+_, _*_, _≤_}
+use native.Mathlib.Omega.{arith}
+use lib.ListN.{getD}
+use Rattle.model.specs.declared.SpeedClass.{SpeedClass}
+use Rattle.model.specs.declared.SpeedClass.the-variants.{Urban, Rural, Motorway}
+
+abbrev pub classIndex : SpeedClass → ℕ
+classIndex Urban = 0
+classIndex Rural = 1
+classIndex Motorway = 2
+
+-- the lines are the same for each class
+unfoldable pub lines : List ℕ
+lines = 10000 ∷ 136 ∷ 144400 ∷ 100000 ∷ 742 ∷ 1896600 ∷ []
+
+unfoldable pub row : SpeedClass → List ℕ
+row Urban = 600 ∷ 29 ∷ 44 ∷ lines
+row Rural = 900 ∷ 23 ∷ 43 ∷ lines
+row Motorway = 3000 ∷ 23 ∷ 43 ∷ lines
+
+unfoldable pub figure : SpeedClass → ℕ → ℕ
+figure c j = getD (row c) j 0
+
+abbrev pub upper : SpeedClass → ℕ
+upper c = figure c 0
+
+abbrev pub shareLow : SpeedClass → ℕ
+shareLow c = figure c 1
+
+abbrev pub shareHigh : SpeedClass → ℕ
+shareHigh c = figure c 2
+
+abbrev pub factor : SpeedClass → ℕ → ℕ
+factor c line = figure c (3 + 3 * line)
+
+abbrev pub slope : SpeedClass → ℕ → ℕ
+slope c line = figure c (4 + 3 * line)
+
+abbrev pub intercept : SpeedClass → ℕ → ℕ
+intercept c line = figure c (5 + 3 * line)
+
+-- a share is a percentage
+pub share-most : (c : SpeedClass) → (shareLow c ≤ 100) × (shareHigh c ≤ 100)
+unfolding figure row
+share-most Urban = (omega arith, omega arith)
+share-most Rural = (omega arith, omega arith)
+share-most Motorway = (omega arith, omega arith)

@@ -1,0 +1,140 @@
+// The figures of the classes and of the percentile lines: one table, and what is read off it.
+ghost use mathlib.Core.Path.{_≡_};
+ghost use Prim.Native.Nat.{_*_, _^_, _≤_, _<_};
+ghost use Rattle.model.specs.Records.{units};
+ghost use Rattle.model.specs.Rules.{powerFactor, limitSide};
+ghost use Rattle.limits.specs.Table.{figure, classIndex, upper, shareLow, shareHigh, factor, slope, intercept};
+ghost use Rattle.limits.specs.Class.{classOf};
+ghost use Rattle.limits.specs.Line.{lineOf};
+use model::Distance;
+use model::Speed;
+use model::SpeedClass;
+
+// A row for each class: the upper speed, the least and the most share of the distance in percent, and for each of the two percentile lines
+// factor, slope and intercept.
+const TABLE: [u64; 27] = [
+    600,
+    29,
+    44,
+    10000,
+    136,
+    144400,
+    100000,
+    742,
+    1896600,
+    900,
+    23,
+    43,
+    10000,
+    136,
+    144400,
+    100000,
+    742,
+    1896600,
+    3000,
+    23,
+    43,
+    10000,
+    136,
+    144400,
+    100000,
+    742,
+    1896600,
+];
+
+pub fn class_index(c: SpeedClass) -> usize
+    ensures { λ r. ⌜ (r ≡ classIndex c) × (r < 3) ⌝ }
+{
+    match c {
+        SpeedClass::Urban => 0,
+        SpeedClass::Rural => 1,
+        SpeedClass::Motorway => 2,
+    }
+}
+
+// Figure j of a class.
+fn figure(c: SpeedClass, j: usize) -> u64
+    requires { ⌜ j < 9 ⌝ }
+    ensures { λ r. ⌜ r ≡ figure c j ⌝ }
+{
+    TABLE[9 * class_index(c) + j]
+}
+
+// The highest speed of a class.
+pub fn upper(c: SpeedClass) -> u64
+    ensures { λ r. ⌜ r ≡ upper c ⌝ }
+{
+    figure(c, 0)
+}
+
+// The least and the most share of a class in the distance, in percent.
+pub fn share_low(c: SpeedClass) -> u64
+    ensures { λ r. ⌜ r ≡ shareLow c ⌝ }
+{
+    figure(c, 1)
+}
+
+pub fn share_high(c: SpeedClass) -> u64
+    ensures { λ r. ⌜ r ≡ shareHigh c ⌝ }
+{
+    figure(c, 2)
+}
+
+// The coefficients of a percentile line of a class: factor × P95 × N against 2592 × (slope × S + intercept × N).
+pub fn factor(c: SpeedClass, line: usize) -> u64
+    requires { ⌜ line < 2 ⌝ }
+    ensures { λ r. ⌜ (r ≡ factor c line) × (r ≤ 100000) ⌝ }
+{
+    figure(c, 3 + 3 * line)
+}
+
+pub fn slope(c: SpeedClass, line: usize) -> u64
+    requires { ⌜ line < 2 ⌝ }
+    ensures { λ r. ⌜ (r ≡ slope c line) × (r ≤ 742) ⌝ }
+{
+    figure(c, 4 + 3 * line)
+}
+
+pub fn intercept(c: SpeedClass, line: usize) -> u64
+    requires { ⌜ line < 2 ⌝ }
+    ensures { λ r. ⌜ (r ≡ intercept c line) × (r ≤ 1896600) ⌝ }
+{
+    figure(c, 5 + 3 * line)
+}
+
+pub fn class_of(v: Speed) -> SpeedClass
+    ensures { λ r. ⌜ r ≡ classOf v ⌝ }
+{
+    let tenths = v.0 as u64;
+    if tenths <= upper(SpeedClass::Urban) {
+        return SpeedClass::Urban;
+    }
+    if tenths <= upper(SpeedClass::Rural) {
+        return SpeedClass::Rural;
+    }
+    SpeedClass::Motorway
+}
+
+// Line 0 up to a mean of 74.6 km/h, line 1 above it.
+fn line_of(samples: u64, distance: Distance) -> usize
+    requires { ⌜ samples ≤ 7201 ⌝ }
+    ensures { λ r. ⌜ (r ≡ lineOf samples (units distance)) × (r < 2) ⌝ }
+{
+    if distance.0 <= 746 * samples { 0 } else { 1 }
+}
+
+// What P95 × N × power_factor may not be above.
+pub fn limit_side(c: SpeedClass, samples: u64, distance: Distance) -> u64
+    requires { ⌜ (samples ≤ 7201) × (units distance ≤ 21603000) ⌝ }
+    ensures { λ r. ⌜ (r ≡ limitSide samples (units distance)) × (r < 2 ^ 47) ⌝ }
+{
+    let line = line_of(samples, distance);
+    2592 * (slope(c, line) * distance.0 + intercept(c, line) * samples)
+}
+
+pub fn power_factor(c: SpeedClass, samples: u64, distance: Distance) -> u64
+    requires { ⌜ samples ≤ 7201 ⌝ }
+    ensures { λ r. ⌜ (r ≡ powerFactor samples (units distance)) × (r ≤ 100000) ⌝ }
+{
+    factor(c, line_of(samples, distance))
+}

@@ -1,0 +1,146 @@
+// The product for C: every exported function. include/rde.h declares them.
+use model::Answer;
+use model::Verdict;
+use model::VerdictAnswer;
+ghost use mathlib.Core.Path.{_≡_};
+ghost use lib.ListN.{length};
+ghost use Rattle.model.specs.Blocks.{tallied, joined};
+ghost use Rattle.model.specs.Numbers.{bit};
+ghost use Rattle.model.specs.Trip as model;
+ghost use Rattle.calls.specs.Area.{areaLen};
+ghost use Rattle.monitor.specs.Reply.{replyOf, judgedReplyOf, verdictReplyOf, Told, Judged, Writes, Steps};
+
+// An answer: refusal 0 is accepted, with the value; any other refusal has value 0.
+#[repr(C)]
+pub struct RdeAnswer {
+    pub refusal: u32,
+    pub value: i64,
+}
+
+// The answer of the verdict call: word 0 to 31 is a rule, 32 exceeded, 33 clean.
+#[repr(C)]
+pub struct RdeVerdictAnswer {
+    pub refusal: u32,
+    pub broken: u32,
+    pub exceeded: u32,
+    pub word: u32,
+}
+
+fn reply(a: Answer) -> RdeAnswer
+    ensures { λ r. ⌜ r ≡ replyOf a ⌝ }
+{
+    match a {
+        Answer::Number(v) => RdeAnswer {
+            refusal: 0,
+            value: v,
+        },
+        Answer::Refused(k) => RdeAnswer {
+            refusal: k,
+            value: 0,
+        },
+    }
+}
+
+fn number(b: bool) -> u32
+    ensures { λ r. ⌜ r ≡ bit b ⌝ }
+{
+    if b { 1 } else { 0 }
+}
+
+fn judged_reply(v: Verdict) -> RdeVerdictAnswer
+    ensures { λ r. ⌜ r ≡ judgedReplyOf v ⌝ }
+{
+    let f = v.finding;
+    RdeVerdictAnswer {
+        refusal: 0,
+        broken: v.broken,
+        exceeded: number(v.exceeded),
+        word: calls::finding_code(f),
+    }
+}
+
+fn verdict_reply(a: VerdictAnswer) -> RdeVerdictAnswer
+    ensures { λ r. ⌜ r ≡ verdictReplyOf a ⌝ }
+{
+    match a {
+        VerdictAnswer::Judged(v) => judged_reply(v),
+        VerdictAnswer::Refused(k) => RdeVerdictAnswer {
+            refusal: k,
+            broken: 0,
+            exceeded: 0,
+            word: 0,
+        },
+    }
+}
+
+// The length of the state area.
+#[no_mangle]
+pub extern "C" fn rde_area_len() -> usize
+    ensures { λ r. ⌜ r ≡ areaLen ⌝ }
+{
+    calls::AREA_LEN
+}
+
+// Makes the area fresh.
+#[no_mangle]
+pub extern "C" fn rde_clear(area: &mut [u8]) -> RdeAnswer
+    ensures { λ r. ⌜ Told (Steps model.clear (now (area .entry)) (now (area .exit))) r ⌝ }
+{
+    reply(calls::clear(area))
+}
+
+// Declares a window.
+#[no_mangle]
+pub extern "C" fn rde_declare(area: &mut [u8], record: &[u8]) -> RdeAnswer
+    ensures { λ r. ⌜ Told (Steps (model.declare (now («record» .entry))) (now (area .entry)) (now (area .exit))) r ⌝ }
+{
+    reply(calls::declare(area, record))
+}
+
+// Takes a sample.
+#[no_mangle]
+pub extern "C" fn rde_sample(area: &mut [u8], record: &[u8]) -> RdeAnswer
+    ensures { λ r. ⌜ Told (Steps (model.sample (now («record» .entry))) (now (area .entry)) (now (area .exit))) r ⌝ }
+{
+    reply(calls::sample(area, record))
+}
+
+// Closes the trip.
+#[no_mangle]
+pub extern "C" fn rde_close(area: &mut [u8]) -> RdeAnswer
+    ensures { λ r. ⌜ Told (Steps model.close (now (area .entry)) (now (area .exit))) r ⌝ }
+{
+    reply(calls::close(area))
+}
+
+// Reads a window.
+#[no_mangle]
+pub extern "C" fn rde_read(area: &[u8], window: u32) -> RdeAnswer
+    ensures { λ r. ⌜ Told (Steps (model.read window) (now (area .entry)) (now (area .entry))) r ⌝ }
+{
+    reply(calls::read(area, window))
+}
+
+// The verdict on the samples so far.
+#[no_mangle]
+pub extern "C" fn rde_verdict(area: &[u8]) -> RdeVerdictAnswer
+    ensures { λ r. ⌜ Judged (now (area .entry)) r ⌝ }
+{
+    verdict_reply(calls::verdict(area))
+}
+
+// The tally of a block of sample records.
+#[no_mangle]
+pub extern "C" fn rde_tally(block: &[u8], out: &mut [u8]) -> RdeAnswer
+    ensures { λ r. ⌜ Told (Writes (tallied (now (block .entry)) (length (now (out .entry)))) (now (out .entry)) (now (out .exit))) r ⌝ }
+{
+    reply(tally::tally_block(block, out))
+}
+
+// The tally of two tallies' samples together.
+#[no_mangle]
+pub extern "C" fn rde_join(a: &[u8], b: &[u8], out: &mut [u8]) -> RdeAnswer
+    ensures { λ r. ⌜ Told (Writes (joined (now (a .entry)) (now (b .entry)) (length (now (out .entry)))) (now (out .entry)) (now (out .exit))) r ⌝ }
+{
+    reply(tally::join_tallies(a, b, out))
+}

@@ -1,0 +1,4 @@
+pub mod Cell
+pub mod Search
+pub mod Shift
+pub mod Change

@@ -1,0 +1,3 @@
+mod Tests
+mod Answers
+mod Channels

@@ -1,0 +1,4 @@
+pub mod Taking
+pub mod Outcomes
+pub mod Pieces
+pub mod Enough

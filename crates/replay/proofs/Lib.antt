@@ -1,0 +1,4 @@
+pub mod Bytes
+pub mod Dispatch
+pub mod Place
+pub mod Going

@@ -1,0 +1,63 @@
+-- What one call of a script does, what the whole replay promises, and what that comes to by the theorem about every list of calls.
+use mathlib.Core.Bool.{true}
+use mathlib.Core.List.{List, _∷_}
+use mathlib.Core.Path.{_≡_, sym, ap, _∙_}
+use Prim.Native.Nat.{ℕ, _*_, _/_}
+use lib.Dec.{leb}
+use lib.ListN.{length, take, drop}
+use lib.Seq.{take-all}
+use borrow.Author.Tests.{leb-true}
+use Rattle.calls.specs.Area.{areaLen, Stands}
+use Rattle.calls.specs.Step.{Step, Run, call, aside}
+use Rattle.calls.specs.Trace.{Claim, runs, every-list, fresh-runs}
+use Rattle.field.specs.Part.{put}
+use Rattle.model.specs.Trip.{Trip, empty, Call, clear, Answer, outcome, left, answers, after}
+use Rattle.replay.specs.declared.Progress.{Progress}
+use Rattle.replay.specs.Script.{calls}
+use Rattle.replay.specs.Answers.{answerLength, encode, encodes}
+
+-- the calls of a script whose answers have room in so many bytes
+abbrev pub fitting : List ℕ → ℕ → List Call
+fitting script room = take (room / answerLength) (calls script)
+
+-- a call made on an area s, its answer written at a place of the output o
+pub record Called (c : Call) (s o : List ℕ) (place : ℕ) (s′ o′ : List ℕ) : Type 0 where
+  pub answer : Answer
+  pub step : Step c s answer s′
+  pub wrote : o′ ≡ put o place (encode answer)
+
+-- a script replayed on an area s into an output o
+pub record Replayed (script s o : List ℕ) (r : Progress) (s′ o′ : List ℕ) : Type 0 where
+  -- as many calls are made as have room for their answers
+  pub made : r .made ≡ length (fitting script (length o))
+  pub written : r .written ≡ answerLength * r .made
+  -- whether these are all the calls of the script
+  pub ended : r .ended ≡ leb (length (calls script)) (length o / answerLength)
+  -- they are made in their order, each on the area as the call before left it, with these answers
+  pub given : List Answer
+  pub run : Run s (fitting script (length o)) given s′
+  pub wrote : take (r .written) o′ ≡ encodes given
+  -- what lies past the answers is as before
+  pub past : drop (r .written) o′ ≡ drop (r .written) o
+
+module _ {script s o : List ℕ} {r : Progress} {s′ o′ : List ℕ} (p : Replayed script s o r s′ o′) where
+  -- Where the script ended, every call of it was made.
+  pub replayed-whole : r .ended ≡ true → fitting script (length o) ≡ calls script
+  replayed-whole e = take-all (length o / answerLength) (calls script) (leb-true _ _ (sym (p .ended) ∙ e))
+
+  -- On an area that stands for a trip: the bytes written are the reference model's answers, and the area stands for the model's last trip.
+  pub replayed-model :
+      (t : Trip) → Stands s t
+      → (take (r .written) o′ ≡ encodes (answers t (fitting script (length o)))) × Stands s′ (after t (fitting script (length o)))
+  replayed-model t st =
+      let m = runs (p .run) t st in
+      (p .wrote ∙ ap encodes (m .0), m .1)
+
+  module _ (cs : List Call) (begins : fitting script (length o) ≡ clear ∷ cs) (size : length s ≡ areaLen) where
+    -- Of a script that begins with clear, on an area of the right length, with any bytes in it: THE THEOREM's claim holds of what was made,
+    pub replayed-claim : Claim (clear ∷ cs) (p .given) s′
+    replayed-claim = every-list size (rw begins at (p .run))
+
+    -- and the bytes written are the answers of the reference model from the empty trip, for whose last trip the area stands.
+    pub replayed-fresh : (take (r .written) o′ ≡ encodes (answers empty (clear ∷ cs))) × Stands s′ (after empty (clear ∷ cs))
+    replayed-fresh = (p .wrote ∙ ap encodes (replayed-claim .answered), fresh-runs size (rw begins at (p .run)) .1)

@@ -1,0 +1,15 @@
+-- `report::main` is safe: what is read and what is written lie within their arrays. Assumes nothing.
+use mathlib.Core.Path.{sym}
+use lib.Seq.{length-take-le}
+use borrow.Author.Needs.{needs}
+use Rattle.report.proofs.main.Statement.{statement}
+use Rattle.report.proofs.main.Tie as tie
+
+slice-aggregate-write-all : tie.Need-slice-aggregate-write-all
+slice-aggregate-write-all c = sym (length-take-le _ _ (search needs))
+
+pub main-spec : {M : Type 1} → statement M
+main-spec =
+    tie.close
+    (tie.spec (λ c. search needs) (λ c κs. search needs) (λ c. search needs) (λ c. search needs) (λ c. search needs) (λ c. search needs)
+    (λ c κs. search needs) (λ c. search needs) slice-aggregate-write-all (λ c κs. search needs) (λ c. search needs))

@@ -1,0 +1,4 @@
+pub mod Speeds
+pub mod Counts
+pub mod Broken
+pub mod Judged

@@ -1,0 +1,100 @@
+-- The stored speeds, a u16 for each second, and the accelerations that they give.
+--     stored-none, stored-more     what the part stores, as samples are accepted
+--     acceleration-is              the accelerations are the model's
+-- Assumes nothing.
+use mathlib.Core.Path.{_≡_, refl, sym, ap, ap₂, _∙_}
+use mathlib.Core.List.{List, [], _∷_, _++_, map}
+use Prim.Native.Nat.{ℕ, zero, suc, _+_, _-_, _*_, _≤_, _<_}
+use native.Mathlib.Decide.{decLt}
+use native.Mathlib.Omega.{arith}
+use borrow.Author.Tests.{lt-ltb, le-ltb}
+use lib.IntN.{ℤ, pos, natAbs, subℕ, _-ℤ_, _*ℤ_}
+use lib.ListN.{length, getD, length-map}
+use Rattle.model.specs.declared.Sample.{Sample}
+use Rattle.model.specs.declared.Speed.{Speed}
+use Rattle.model.specs.Numbers.{leVal}
+use Rattle.model.specs.Records.{tenths}
+use Rattle.model.specs.Rules.{speed, speedAt, speedBefore, acceleration}
+use Rattle.field.specs.Le.{putLe}
+use Rattle.field.specs.Cells.{cells, cells-length}
+use Rattle.rule.specs.declared.Acceleration.{Acceleration}
+use Rattle.rule.specs.declared.Power.{Power}
+
+-- the first n speeds of the part
+abbrev pub speedsOf : List ℕ → ℕ → List ℕ
+speedsOf part n = cells 2 leVal part n
+
+-- the first n speeds of the part are those of the samples
+abbrev pub Stored : List ℕ → ℕ → List Sample → Type 0
+Stored part n ss = map speed ss ≡ speedsOf part n
+
+-- a speed is added after the first n, and nothing else changes
+pub record Appended (n : ℕ) (v : Speed) (before after : List ℕ) : Type 0 where
+  pub is : after ≡ putLe 2 before (2 * n) (tenths v)
+  pub speeds : speedsOf after (n + 1) ≡ speedsOf before n ++ (tenths v ∷ [])
+
+abbrev pub tenthsOf : ℕ → Speed
+tenthsOf v = record { 0 = v }
+
+-- the speed of second i, and of the second before it: 0 past the last, and before the first
+unfoldable pub speedIn : List ℕ → ℕ → Speed
+speedIn vs i = tenthsOf (getD vs i 0)
+
+unfoldable pub speedBeforeIn : List ℕ → ℕ → Speed
+speedBeforeIn vs zero = tenthsOf 0
+speedBeforeIn vs (suc i) = speedIn vs i
+
+abbrev pub accelerationOf : Speed → Speed → Acceleration
+accelerationOf next previous = record { 0 = pos (tenths next) -ℤ pos (tenths previous) }
+
+abbrev pub powerOf : Speed → Acceleration → Power
+powerOf v a = record { 0 = pos (tenths v) *ℤ a .0 }
+
+abbrev pub accelerationIn : List ℕ → ℕ → Acceleration
+accelerationIn vs i = accelerationOf (speedIn vs (suc i)) (speedBeforeIn vs i)
+
+pub acceleration-most : (a b : ℕ) → natAbs (pos a -ℤ pos b) ≤ a + b
+acceleration-most a zero = omega arith
+acceleration-most a (suc b) = by (decLt a (suc b))
+  where
+    by : Dec (a < suc b) → natAbs (subℕ a (suc b)) ≤ a + suc b
+    by (yes h) = rw (lt-ltb a (suc b) h) (omega arith)
+    by (no h) = rw (le-ltb a (suc b) (omega arith)) (omega arith)
+
+-- past the last speed
+pub speed-past : (vs : List ℕ) (i : ℕ) → length vs ≤ i → getD vs i 0 ≡ 0
+speed-past [] i h = refl
+speed-past (v ∷ vs) zero h = absurd (omega arith)
+speed-past (v ∷ vs) (suc i) h = speed-past vs i (omega arith)
+
+-- they are the model's, where these are the samples' speeds
+pub speed-at : (ss : List Sample) (i : ℕ) → speedAt ss i ≡ tenths (speedIn (map speed ss) i)
+unfolding speedAt speedIn
+speed-at [] i = refl
+speed-at (s ∷ ss) zero = refl
+speed-at (s ∷ ss) (suc i) = speed-at ss i
+
+speed-before : (ss : List Sample) (i : ℕ) → speedBefore ss i ≡ tenths (speedBeforeIn (map speed ss) i)
+unfolding speedBefore speedBeforeIn
+speed-before ss zero = refl
+speed-before ss (suc i) = speed-at ss i
+
+pub acceleration-is : (ss : List Sample) (i : ℕ) → acceleration ss i ≡ accelerationIn (map speed ss) i .0
+unfolding acceleration
+acceleration-is ss i = ap₂ (λ (a b : ℕ). pos a -ℤ pos b) (speed-at ss (suc i)) (speed-before ss i)
+
+-- what the part stores: nothing of no samples, and one sample more after its speed was added
+pub stored-none : (part : List ℕ) → Stored part 0 []
+unfolding cells
+stored-none part = refl
+
+pub stored-more : (n : ℕ) (before after : List ℕ) (ss : List Sample) (s : Sample) → Stored before n ss → Appended n (s .speed) before after → Stored after (n + 1) (ss ++ (s ∷ []))
+stored-more n before after ss s e a = more ss ∙ ap (λ (vs : List ℕ). vs ++ (speed s ∷ [])) e ∙ sym (a .speeds)
+  where
+    more : (ss : List Sample) → map speed (ss ++ (s ∷ [])) ≡ map speed ss ++ (speed s ∷ [])
+    more [] = refl
+    more (x ∷ ss) = ap (λ (vs : List ℕ). speed x ∷ vs) (more ss)
+
+-- as many samples as speeds
+pub stored-length : (part : List ℕ) (n : ℕ) (ss : List Sample) → Stored part n ss → length ss ≡ n
+stored-length part n ss e = sym (length-map ss speed) ∙ ap length e ∙ cells-length 2 leVal part n

@@ -1,0 +1,12 @@
+-- Laws of sliding windows, over the reference model's definitions: what one sample more does to a window.
+pub mod Lists
+pub mod Sums
+pub mod Order
+pub mod Ordered
+pub mod Carry
+pub mod Percentile
+pub mod Step
+pub mod Undisplaced
+pub mod Held
+pub mod Moves
+pub mod Readings

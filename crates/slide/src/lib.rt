@@ -1,0 +1,1 @@
+// Laws of sliding windows, in specs/: what one more sample does to a window of the reference model. No code.

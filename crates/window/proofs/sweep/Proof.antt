@@ -1,0 +1,28 @@
+-- `window::sweep` meets its contract. Assumes nothing.
+use mathlib.Core.Path.{_≡_}
+use Prim.Native.Nat.{_-_}
+use native.Mathlib.Omega.{arith}
+use borrow.Author.Needs.{needs}
+use Rattle.window.proofs.sweep.Statement.{statement}
+use Rattle.window.specs.Sweep.{Sweeping, sweep-start, sweep-on}
+use Rattle.window.proofs.sweep.Tie as tie
+
+abbrev Inv-loop : tie.InvT-loop
+Inv-loop part₀ windows n k₀ part k = Sweeping n windows k part₀ part
+
+abbrev μ-loop : tie.MeasureT-loop
+μ-loop part₀ windows n k₀ part k = windows - k
+
+loop-holds : tie.Need-loop-holds Inv-loop μ-loop
+loop-holds c = sweep-start _ _ _ (search needs)
+
+loop-again : tie.Need-loop-again Inv-loop μ-loop
+loop-again c = sweep-on _ _ _ _ _ _ (c .before .before .before .before .before .loop .inv) (search needs) (c .before .before .turn .ensures)
+
+returns : tie.Need-returns Inv-loop μ-loop
+returns c = let e : c .before .loop .k ≡ c .before .before .before .args .windows = omega (arith, c .before .loop .inv .turns) in rw e at (c .before .loop .inv)
+
+pub sweep-spec : {M : Type 1} → statement M
+sweep-spec =
+    tie.close
+    (tie.spec Inv-loop μ-loop loop-holds (λ c κs. search needs) (λ c. search needs) (λ c. search needs) loop-again (λ c. search needs) returns)

@@ -1,0 +1,45 @@
+-- What the windows' part stands for: these windows after these samples. Stated by the windows' qualifying values and held entries.
+use mathlib.Core.Bool.{true}
+use mathlib.Core.List.{List, []}
+use mathlib.Core.Path.{_≡_}
+use Prim.Native.Nat.{ℕ, _+_, _*_, _≤_, _<_}
+use lib.ListN.{length, getD}
+use Rattle.field.specs.Part.{part}
+use Rattle.model.specs.Numbers.{sumℤ, total}
+use Rattle.model.specs.Records.{sampleOf, inRange, windowOf, layoutKept, maxWindows, maxSamples}
+use Rattle.model.specs.Windows.{sampleAt, values, held, entries}
+use Rattle.model.specs.declared.Sample.{Sample}
+use Rattle.model.specs.declared.Window.{Window}
+use Rattle.model.specs.declared.Function.the-variants.{Percentile}
+use Rattle.ordered.specs.Store.{valuesOf}
+use Rattle.slide.specs.Lists.{All}
+use Rattle.slide.specs.Ordered.{ordered}
+use Rattle.slots.specs.Layout.{partLen, recordOf, movesOf, slotOf, countIn, sumIn, firstIn, storeIn}
+use Rattle.slots.specs.Lists.{listIn}
+
+-- the k-th of the windows
+abbrev pub windowOfList : List Window → ℕ → Window
+windowOfList ws k = getD ws k (windowOf [])
+
+-- a slot's bytes stand for window w after the samples ss
+pub record SlotStands (w : Window) (ss : List Sample) (s : List ℕ) : Type 0 where
+  pub window : windowOf (part s 0 16) ≡ w
+  pub layout : layoutKept (part s 0 16) ≡ true
+  pub count : countIn s ≡ length (values w ss)
+  pub sum : sumIn s ≡ sumℤ (values w ss)
+  pub first : firstIn s < 600
+  -- no function but smallest and largest has entries: their list is empty
+  pub list : listIn s ≡ held w ss
+  pub store : w .function ≡ Percentile → valuesOf (storeIn s) (countIn s) ≡ ordered (values w ss)
+
+-- the part stands for the windows ws after the samples ss
+pub record Stands (ws : List Window) (ss : List Sample) (p : List ℕ) : Type 0 where
+  pub size : length p ≡ partLen
+  pub windows : length ws ≤ maxWindows
+  pub samples : length ss ≤ maxSamples
+  pub ranges : All (λ s. inRange s ≡ true) ss
+  -- the ring has the last 610 samples
+  pub ring : (i : ℕ) → i < length ss → length ss ≤ i + 610 → sampleOf (recordOf p i) ≡ sampleAt ss i
+  pub slots : (k : ℕ) → k < length ws → SlotStands (windowOfList ws k) ss (slotOf p k)
+  -- the moves are 2 × entries − held
+  pub moves : movesOf p + total (λ w. length (held w ss)) ws ≡ 2 * total (λ w. length (entries w ss)) ws

@@ -1,0 +1,38 @@
+"""Writes the recorded example drives: sample records of 16 bytes, one a second.
+
+Run: python3 examples/drives/make.py
+
+clean.drive      90 minutes of town, country and motorway in the shares of Annex IIIA, which break no rule
+exceeded.drive   the same drive with NOx above 80 mg/km
+fast.drive       the same drive with one second above 160 km/h, which breaks rule 11
+short.drive      the first 20 minutes of it, which breaks rule 0 and others
+
+The speed profile is that of tests/reckoning/drives.py: a town part with stops and a mean of 15 to 40 km/h, then swings
+between 60 and 90 km/h, then between 90 and 130 km/h, each of at least 16 km.
+"""
+
+import os
+import sys
+
+HERE = os.path.dirname(os.path.abspath(__file__))
+sys.path.insert(0, os.path.join(HERE, '..', '..', 'tests', 'reckoning'))
+
+import drives  # noqa: E402
+
+
+def main():
+    clean = drives.clean_drive()
+    top = max(range(len(clean)), key=lambda k: clean[k].speed)
+    recorded = {
+        'clean': clean,
+        'exceeded': drives.exceeded_drive(),
+        'fast': drives.changed(clean, top, speed=1601),
+        'short': clean[:1200],
+    }
+    for name, drive in recorded.items():
+        with open(os.path.join(HERE, name + '.drive'), 'wb') as file:
+            file.write(drives.block_of(drive))
+
+
+if __name__ == '__main__':
+    main()

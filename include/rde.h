@@ -1,0 +1,103 @@
+/* The judging core of the emissions handset: the six calls on a lent state area, and tallies of blocks of samples.
+ *
+ * All numbers in records and tallies are little-endian. No function keeps a pointer, allocates, or reads or writes outside the
+ * lengths it is given; each ends for any bytes. A slice of length 0 may have any pointer that is not null.
+ *
+ * A trip: rde_clear, then rde_declare for each window, then rde_sample once a second, rde_read and rde_verdict at any time, and
+ * rde_close at the end. The whole state is the area: between calls nobody else may write it, and records lie outside it.
+ */
+#ifndef RDE_H
+#define RDE_H
+
+#include <stddef.h>
+#include <stdint.h>
+
+#ifdef __cplusplus
+extern "C" {
+#endif
+
+/* What a call answers: refusal 0 means accepted, with the value; any other refusal has value 0 and has changed no byte. */
+typedef struct {
+    uint32_t refusal;
+    int64_t value;
+} rde_answer;
+
+/* What rde_verdict answers; at a refusal the other three are 0. */
+typedef struct {
+    uint32_t refusal;
+    uint32_t broken;   /* bit k: rule k is broken */
+    uint32_t exceeded; /* 1: the NOx limit is exceeded; 0: it is not */
+    uint32_t word;     /* the lowest broken rule, 0 to 31; else RDE_EXCEEDED; else RDE_CLEAN */
+} rde_verdict_answer;
+
+/* Refusal numbers. */
+enum {
+    RDE_OK = 0,
+    RDE_RECORD_LENGTH = 1,  /* record not 16 bytes, or block no multiple of 16 */
+    RDE_CLOSED = 2,         /* sample, declare or close on a closed trip */
+    RDE_SECOND = 3,         /* second out of turn */
+    RDE_RANGE = 4,          /* a value outside its range */
+    RDE_FULL = 5,           /* 7201 samples held already, or a block of more */
+    RDE_WINDOW = 6,         /* window record breaks its layout */
+    RDE_STARTED = 7,        /* declare after a sample */
+    RDE_WINDOWS_FULL = 8,   /* 16 windows declared already */
+    RDE_NO_WINDOW = 9,      /* no window of that number */
+    RDE_NONE_QUALIFIES = 10, /* no sample qualifies; functions 2 to 5 */
+    RDE_LENGTH = 11,        /* area or output of the wrong length */
+    RDE_TALLY = 12,         /* an ill-formed tally */
+    RDE_JOINED = 13,        /* joined tallies over 7201 samples */
+    RDE_DAMAGED = 255       /* the area holds what no list of calls leaves; only rde_clear helps */
+};
+
+/* The words of a verdict beside the rules' numbers. */
+enum {
+    RDE_EXCEEDED = 32,
+    RDE_CLEAN = 33
+};
+
+#define RDE_AREA_LEN 63532  /* bytes of the state area; rde_area_len() gives the same */
+#define RDE_RECORD_LEN 16   /* bytes of a sample record and of a window record */
+#define RDE_TALLY_LEN 104   /* bytes of a tally: thirteen u64 */
+#define RDE_MAX_SAMPLES 7201
+#define RDE_MAX_WINDOWS 16
+
+/* The length that every area must have. */
+size_t rde_area_len(void);
+
+/* Starts a trip: no window, no sample, not closed, whatever bytes the area held. Value 0. Refusal: RDE_LENGTH. */
+rde_answer rde_clear(uint8_t *area, size_t area_len);
+
+/* Declares a window by its record. Value: the window's number, from 0.
+ * Refusals, in this order: RDE_LENGTH, RDE_RECORD_LENGTH, RDE_CLOSED, RDE_STARTED, RDE_WINDOWS_FULL, RDE_WINDOW. */
+rde_answer rde_declare(uint8_t *area, size_t area_len, const uint8_t *record, size_t record_len);
+
+/* Takes the sample of the next second. Value: the moves of held entries since the last clear.
+ * Refusals, in this order: RDE_LENGTH, RDE_RECORD_LENGTH, RDE_CLOSED, RDE_FULL, RDE_SECOND, RDE_RANGE. */
+rde_answer rde_sample(uint8_t *area, size_t area_len, const uint8_t *record, size_t record_len);
+
+/* Ends the trip: readings and the verdict stay, nothing is taken any more. Value 0. Refusals: RDE_LENGTH, RDE_CLOSED. */
+rde_answer rde_close(uint8_t *area, size_t area_len);
+
+/* Value: the window's function over the samples that it looks at now and that qualify.
+ * Refusals, in this order: RDE_LENGTH, RDE_NO_WINDOW, RDE_NONE_QUALIFIES. Changes nothing. */
+rde_answer rde_read(const uint8_t *area, size_t area_len, uint32_t window);
+
+/* The verdict on the samples taken so far, the trip closed or not. Refusal: RDE_LENGTH. Changes nothing. */
+rde_verdict_answer rde_verdict(const uint8_t *area, size_t area_len);
+
+/* Each of the six calls but rde_clear may also refuse with RDE_DAMAGED; an area that only these calls have written since an
+ * accepted rde_clear never gives it. RDE_LENGTH and RDE_RECORD_LENGTH are given first. */
+
+/* The tally of a block of sample records (their seconds are not looked at) into out, which has exactly RDE_TALLY_LEN bytes.
+ * Value 0. Refusals, in this order: RDE_LENGTH, RDE_RECORD_LENGTH, RDE_FULL, RDE_RANGE; out is then as it was. */
+rde_answer rde_tally(const uint8_t *block, size_t block_len, uint8_t *out, size_t out_len);
+
+/* The tally of two tallies' samples together into out, which has exactly RDE_TALLY_LEN bytes and is neither a nor b.
+ * Value 0. Refusals, in this order: RDE_LENGTH, RDE_TALLY (a or b ill-formed), RDE_JOINED; out is then as it was. */
+rde_answer rde_join(const uint8_t *a, size_t a_len, const uint8_t *b, size_t b_len, uint8_t *out, size_t out_len);
+
+#ifdef __cplusplus
+}
+#endif
+
+#endif

@@ -1,7 +1,7 @@
 /* The judging core of the emissions handset: the six calls on a lent state area, and tallies of blocks of samples.
  *
- * All numbers in records and tallies are little-endian. No function keeps a pointer, allocates, or reads or writes outside the
- * lengths it is given; each ends for any bytes. A slice of length 0 may have any pointer that is not null.
+ * All numbers in records and tallies are little-endian, signed ones in two's complement. No function keeps a pointer, allocates, or
+ * reads or writes outside the lengths it is given; each ends for any bytes. A slice of length 0 may have any pointer that is not null.
  *
  * A trip: rde_clear, then rde_declare for each window, then rde_sample once a second, rde_read and rde_verdict at any time, and
  * rde_close at the end. The whole state is the area: between calls nobody else may write it, and records lie outside it.
@@ -27,7 +27,7 @@ typedef struct {
     uint32_t refusal;
     uint32_t broken;   /* bit k: rule k is broken */
     uint32_t exceeded; /* 1: the NOx limit is exceeded; 0: it is not */
-    uint32_t word;     /* the lowest broken rule, 0 to 31; else RDE_EXCEEDED; else RDE_CLEAN */
+    uint32_t word;     /* the finding: the lowest broken rule, 0 to 31; else RDE_EXCEEDED; else RDE_CLEAN */
 } rde_verdict_answer;
 
 /* Refusal numbers. */
@@ -49,7 +49,7 @@ enum {
     RDE_DAMAGED = 255       /* the area holds what no list of calls leaves; only rde_clear helps */
 };
 
-/* The words of a verdict beside the rules' numbers. */
+/* The findings of a verdict beside the rules' numbers. */
 enum {
     RDE_EXCEEDED = 32,
     RDE_CLEAN = 33
@@ -60,6 +60,46 @@ enum {
 #define RDE_TALLY_LEN 104   /* bytes of a tally: thirteen u64 */
 #define RDE_MAX_SAMPLES 7201
 #define RDE_MAX_WINDOWS 16
+
+/* A sample record:
+ *     at  type  what           unit      range
+ *      0  u16   second                   the number of samples accepted so far
+ *      2  u16   speed          0.1 km/h  0 to 3000
+ *      4  i16   altitude       m         -500 to 5000
+ *      6  u16   temperature    0.1 K     2000 to 3500
+ *      8  u16   exhaust flow   0.1 kg/h  0 to 20000
+ *     10  u16   NOx            ppm       0 to 5000
+ *     12  u32   CO2            mg/s      0 to 100000
+ *
+ * A window record:
+ *     at  type  what
+ *      0  u8    function: 0 count, 1 sum, 2 smallest, 3 largest, 4 average (rounded down), 5 percentile
+ *      1  u8    channel that it reads: 0 speed, 1 altitude, 2 temperature, 3 exhaust flow, 4 NOx, 5 CO2, 6 exhaust flow x NOx
+ *      2  u8    condition channel, 0 to 6
+ *      3  u8    0
+ *      4  u16   width in samples, 1 to 600
+ *      6  u16   0
+ *      8  i32   low
+ *     12  i32   high, not below low
+ * A window looks at the last samples taken, as many as its width, or at all where they are fewer. Those whose condition channel is
+ * within low to high, both included, qualify. Low, high and readings but the count are in their channel's unit, channel 6 in
+ * 0.1 kg/h x ppm. The percentile is the least qualifying value v such that at least 95 in 100 of the qualifying values are v or less.
+ *
+ * A tally. A sample's class goes by its speed: urban up to 60.0 km/h, rural above that and up to 90.0 km/h, motorway above 90.0 km/h.
+ *     at  type  what                                             at most, in a well-formed tally
+ *      0  u64   urban samples                                    n, the samples of the three classes together, is at most 7201
+ *      8  u64   rural samples
+ *     16  u64   motorway samples
+ *     24  u64   urban distance, 1/36000 km: the sum of speeds    600 x urban samples
+ *     32  u64   rural distance                                   900 x rural samples
+ *     40  u64   motorway distance                                3000 x motorway samples
+ *     48  u64   samples below 1.0 km/h                           n
+ *     56  u64   samples above 100.0 km/h                         n
+ *     64  u64   samples above 145.0 km/h and up to 160.0 km/h    n
+ *     72  u64   samples above 160.0 km/h                         n
+ *     80  u64   samples below 266.0 K or above 308.0 K           n
+ *     88  u64   samples above 1300 m                             n
+ *     96  u64   sum of channel 6                                 100000000 x n */
 
 /* The length that every area must have. */
 size_t rde_area_len(void);
@@ -78,22 +118,23 @@ rde_answer rde_sample(uint8_t *area, size_t area_len, const uint8_t *record, siz
 /* Ends the trip: readings and the verdict stay, nothing is taken any more. Value 0. Refusals: RDE_LENGTH, RDE_CLOSED. */
 rde_answer rde_close(uint8_t *area, size_t area_len);
 
-/* Value: the window's function over the samples that it looks at now and that qualify.
+/* Value: the window's function over the samples that it looks at now and that qualify; count and sum of none are 0.
  * Refusals, in this order: RDE_LENGTH, RDE_NO_WINDOW, RDE_NONE_QUALIFIES. Changes nothing. */
 rde_answer rde_read(const uint8_t *area, size_t area_len, uint32_t window);
 
 /* The verdict on the samples taken so far, the trip closed or not. Refusal: RDE_LENGTH. Changes nothing. */
 rde_verdict_answer rde_verdict(const uint8_t *area, size_t area_len);
 
-/* Each of the six calls but rde_clear may also refuse with RDE_DAMAGED; an area that only these calls have written since an
- * accepted rde_clear never gives it. RDE_LENGTH and RDE_RECORD_LENGTH are given first. */
+/* rde_sample, rde_read and rde_verdict may also refuse with RDE_DAMAGED, after RDE_LENGTH and RDE_RECORD_LENGTH. An area that the
+ * six calls alone have written since an accepted rde_clear never gives it; not all damage is found. */
 
-/* The tally of a block of sample records (their seconds are not looked at) into out, which has exactly RDE_TALLY_LEN bytes.
- * Value 0. Refusals, in this order: RDE_LENGTH, RDE_RECORD_LENGTH, RDE_FULL, RDE_RANGE; out is then as it was. */
+/* The tally of a block of sample records (their seconds are not looked at) into out, which has exactly RDE_TALLY_LEN bytes and
+ * shares no byte with block. Value 0.
+ * Refusals, in this order: RDE_LENGTH, RDE_RECORD_LENGTH, RDE_FULL, RDE_RANGE; out is then as it was. */
 rde_answer rde_tally(const uint8_t *block, size_t block_len, uint8_t *out, size_t out_len);
 
-/* The tally of two tallies' samples together into out, which has exactly RDE_TALLY_LEN bytes and is neither a nor b.
- * Value 0. Refusals, in this order: RDE_LENGTH, RDE_TALLY (a or b ill-formed), RDE_JOINED; out is then as it was. */
+/* The tally of two tallies' samples together into out, which has exactly RDE_TALLY_LEN bytes and shares no byte with a or b. Value 0.
+ * Refusals, in this order: RDE_LENGTH, RDE_TALLY (a or b ill-formed), RDE_JOINED; out is then as it was. */
 rde_answer rde_join(const uint8_t *a, size_t a_len, const uint8_t *b, size_t b_len, uint8_t *out, size_t out_len);
 
 #ifdef __cplusplus

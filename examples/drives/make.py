@@ -7,8 +7,8 @@ exceeded.drive   the same drive with NOx above 80 mg/km
 fast.drive       the same drive with one second above 160 km/h, which breaks rule 11
 short.drive      the first 20 minutes of it, which breaks rule 0 and others
 
-The speed profile is that of tests/reckoning/drives.py: a town part with stops and a mean of 15 to 40 km/h, then swings
-between 60 and 90 km/h, then between 90 and 130 km/h, each of at least 16 km.
+The speed profile is that of tests/reckoning/drives.py: a town part with stops and a mean of 25 km/h, then swings between
+65.0 and 85.1 km/h, then between 101.0 and 119.1 km/h, each part of more than 20 km.
 """
 
 import os

@@ -12,8 +12,7 @@
 #include "lent.h"
 #include "lines.h"
 
-#define SHOWN 10        /* failures told in full */
-#define LIST_SECONDS 60 /* more than any list takes */
+#define SHOWN 10 /* failures told in full */
 
 typedef struct {
     lent lent;
@@ -125,7 +124,7 @@ static void start_list(list *l, const char *name)
     l->number = 0;
     l->failed = 0;
     snprintf(run.place, sizeof run.place, "list %s, clear", l->name);
-    alarm(LIST_SECONDS);
+    alarm(MOST_SECONDS);
     random_bytes(bytes, l->lent.memory.room);
     lent_start(&l->lent, (run.passed + run.failed) % 2, bytes);
     given = lent_call(&l->lent, &clear);

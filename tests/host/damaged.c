@@ -10,7 +10,6 @@
 #define SHOWN 10
 #define ROUNDS 4         /* each kind of call is made so often on an area */
 #define ROOM (1 << 17)
-#define AREA_SECONDS 60
 
 static long refusals[256], others, accepted;
 
@@ -192,7 +191,7 @@ static void run_area(lent *l, long k)
     static uint8_t bytes[ROOM];
     trip t;
     snprintf(run.place, sizeof run.place, "area %ld", k);
-    alarm(AREA_SECONDS);
+    alarm(MOST_SECONDS);
     random_bytes(bytes, l->memory.room);
     lent_start(l, k % 2, bytes);
     t = damage(l);

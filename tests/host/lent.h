@@ -44,6 +44,10 @@ typedef struct {
 
 /* --- Figures and faults --- */
 
+#ifndef MOST_SECONDS
+#define MOST_SECONDS 60 /* more than any list of calls, area or tally takes */
+#endif
+
 static struct {
     long passed, failed;
     char place[200]; /* what is being done, told at a fault */

@@ -8,8 +8,8 @@
 #include <string.h>
 
 #include "guard.h"
+#include "lent.h"
 #include "lines.h"
-#include "rde.h"
 
 #define FILL 0xa5
 
@@ -66,18 +66,21 @@ int main(void)
 {
     static char line[1 << 20];
     memory m = {guarded_new(1 << 18), guarded_new(1 << 18), guarded_new(1 << 12), 0};
-    long passed = 0, failed = 0;
+    long number;
+    catch_faults();
     while (fgets(line, sizeof line, stdin) != NULL) {
         if (strncmp(line, "tally", 5) != 0 && strncmp(line, "join", 4) != 0)
             continue;
-        m.low = (passed + failed) % 2;
+        number = run.passed + run.failed;
+        m.low = number % 2;
+        snprintf(run.place, sizeof run.place, "tally or join %ld", number + 1);
+        alarm(MOST_SECONDS);
         if (line_passes(m, line)) {
-            passed++;
+            run.passed++;
         } else {
-            failed++;
-            printf("tally or join differs at line %ld\n", passed + failed);
+            run.failed++;
+            printf("tally or join %ld differs\n", number + 1);
         }
     }
-    printf("%ld passed, %ld failed\n", passed, failed);
-    return failed != 0 || passed == 0;
+    return finish();
 }

@@ -1,11 +1,11 @@
-"""Calls, tallies and reports with their answers by the trip book, as terms and
-equations of the language antt, which the prover's `refl` checks by computing.
+"""Calls, tallies and reports with their answers by the outside reckoning, as terms
+and equations of the language antt, which the prover's `refl` checks by computing.
 compare.py puts them into a scratch crate.
 """
 
-import book
 import drives
 import generate
+import reference
 
 
 # --- Text --------------------------------------------------------------------
@@ -31,10 +31,10 @@ def integer_term(n):
     return '(pos %d)' % n if n >= 0 else '(negsuc %d)' % (-n - 1)
 
 
-def finding_term(word):
-    if word == book.WORD_EXCEEDED:
+def finding_term(finding):
+    if finding == reference.FINDING_EXCEEDED:
         return 'Exceeded'
-    return 'Clean' if word == book.WORD_CLEAN else 'Rule %d' % word
+    return 'Clean' if finding == reference.FINDING_CLEAN else 'Rule %d' % finding
 
 
 def answer_term(answer):
@@ -42,9 +42,9 @@ def answer_term(answer):
         return '(number %s)' % integer_term(answer[1])
     if answer[0] == 'refused':
         return '(refused %d)' % answer[1]
-    _, mask, exceeded, word = answer
+    _, mask, exceeded, finding = answer
     return ('(judged (record { broken = %d; exceeded = %s; finding = %s }))'
-            % (mask, 'true' if exceeded else 'false', finding_term(word)))
+            % (mask, 'true' if exceeded else 'false', finding_term(finding)))
 
 
 def written_term(answer):
@@ -61,16 +61,16 @@ def list_equation(calls, answers):
 
 def tally_equation(block, length):
     return ('tallied %s %d' % (bytes_term(block), length),
-            written_term(book.tally_block(block, length)))
+            written_term(reference.tally_block(block, length)))
 
 
 def join_equation(a, b, length):
     return ('joined %s %s %d' % (bytes_term(a), bytes_term(b), length),
-            written_term(book.join(a, b, length)))
+            written_term(reference.join(a, b, length)))
 
 
 def report_equation(data):
-    return 'report %s' % bytes_term(data), bytes_term(book.report(data))
+    return 'report %s' % bytes_term(data), bytes_term(reference.report(data))
 
 
 # --- The lists ---------------------------------------------------------------
@@ -92,7 +92,7 @@ def function_list(rng, function):
         function=function, channel=1, condition=0, low=0,
         high=rng.choice((0, 300, 700, 3000)))
     maker = generate.Maker(rng, 8, 0, style='altitudes')
-    maker.make(('declare', book.encode_window(window)))
+    maker.make(('declare', reference.encode_window(window)))
     for _ in range(rng.randint(3, 6)):
         maker.sample()
         maker.make(('read', 0))
@@ -129,7 +129,7 @@ def edge_lists():
     limits = [v + d for v in (10, 600, 900, 1000, 1450, 1600, 2999) for d in (-1, 0, 1)]
     lists.append([c for sample in drives.calls_of(drives.drive_of(limits))[:-1]
                   for c in (sample, ('verdict',))])
-    return [(calls, book.replay(calls)) for calls in lists]
+    return [(calls, reference.replay(calls)) for calls in lists]
 
 
 # --- Tallies and reports -----------------------------------------------------

@@ -1,11 +1,14 @@
-"""Compares the definitions of crates/model with the trip book: the prover
-computes the definitions' answers to random lists of calls and must find them
-equal to the book's.
+"""Compares the definitions of crates/model with the outside reckoning: the prover
+computes the definitions' answers to random lists of calls, tallies and reports,
+and must find them equal to the reckoning's.
 
 Run: python3 tests/reckoning/compare.py [--lists 300] [--verdicts 20] [--seed 1] ..
 
 It writes a scratch repository of two crates, the model and the equations, into a
-temporary folder, and has `rt check` prove it.  The last line says how it went.
+temporary folder, and has `rt must-fail` prove it.  One equation is also tried with
+an answer that is wrong, which the prover must refuse.  The last line is 'N passed,
+M failed': the crate of equations is proved as a whole or not at all, so M is 0 or
+all of them.
 """
 
 import argparse
@@ -57,12 +60,23 @@ def write(path, text):
         file.write(text)
 
 
+def statement(k, left, right):
+    return 'case-%d : %s ≡ %s' % (k, left, right)
+
+
 def file_text(equations, first, header, unfolding):
     parts = [header]
     for k, (left, right) in enumerate(equations, first):
-        name = 'case-%d' % k
-        parts.append('%s : %s ≡ %s\n%s\n%s = refl\n' % (name, left, right, unfolding, name))
+        parts.append('%s\n%s\ncase-%d = refl\n' % (statement(k, left, right), unfolding, k))
     return '\n'.join(parts)
+
+
+def wrong_edit(k, left, right):
+    """An edit that gives equation k a wrong answer: there is no refusal 0, and no
+    report or list of calls here comes to nothing."""
+    wrong = '[]' if left.startswith(('answers', 'report')) else 'unwritten 0'
+    return ('# equation %d with a wrong answer\nfile: specs/Part%d.antt\nold: %s\nnew: %s\n'
+            % (k, k // PER_FILE, statement(k, left, right), statement(k, left, wrong)))
 
 
 def all_equations(options):
@@ -77,23 +91,25 @@ def all_equations(options):
     return [antt.list_equation(*calls) for calls in small + drives + edges] + tallies + reports
 
 
-def write_repository(folder, options):
+def write_repository(folder, equations):
     shutil.copytree(MODEL, os.path.join(folder, 'crates', 'model'),
                     ignore=shutil.ignore_patterns('must-fail'))
     scratch = os.path.join(folder, 'crates', 'compared')
     write(os.path.join(folder, 'crates.txt'), 'model:\ncompared: model\n')
     write(os.path.join(scratch, 'src', 'lib.rt'), '// Calls with their answers.\n')
-    equations, texts = all_equations(options), header_and_unfolding()
+    texts = header_and_unfolding()
     starts = range(0, len(equations), PER_FILE)
     for k, start in enumerate(starts):
         write(os.path.join(scratch, 'specs', 'Part%d.antt' % k),
               file_text(equations[start:start + PER_FILE], start, *texts))
     write(os.path.join(scratch, 'specs', 'Lib.antt'),
           ''.join('pub mod Part%d\n' % k for k in range(len(starts))))
+    last = len(equations) - 1
+    write(os.path.join(scratch, 'must-fail', 'wrong_answer.edit'), wrong_edit(last, *equations[last]))
 
 
 def main():
-    parser = argparse.ArgumentParser(description='Compare the definitions with the trip book.')
+    parser = argparse.ArgumentParser(description='Compare the definitions with the outside reckoning.')
     parser.add_argument('--lists', type=int, default=300)
     parser.add_argument('--verdicts', type=int, default=20)
     parser.add_argument('--tallies', type=int, default=90)
@@ -101,15 +117,19 @@ def main():
     parser.add_argument('--no-edges', dest='edges', action='store_false')
     parser.add_argument('--seed', type=int, default=1)
     options = parser.parse_args()
+    equations = all_equations(options)
     with tempfile.TemporaryDirectory() as folder:
-        write_repository(folder, options)
-        run = subprocess.run(['rt', 'check'], cwd=folder, text=True,
+        write_repository(folder, equations)
+        run = subprocess.run(['rt', 'must-fail'], cwd=folder, text=True,
                              stdout=subprocess.PIPE, stderr=subprocess.STDOUT)
-    if run.returncode != 0:
-        print(run.stdout)
-    print('the definitions agree' if run.returncode == 0 else 'the definitions DIFFER')
-    sys.exit(run.returncode)
+    tried = len(equations) + 1    # the equations and the wrong answer
+    if run.returncode == 0:
+        print('%d passed, 0 failed' % tried)
+        return 0
+    print(run.stdout)
+    print('0 passed, %d failed' % tried)
+    return 1
 
 
 if __name__ == '__main__':
-    main()
+    sys.exit(main())

@@ -1,14 +1,14 @@
 """Builders of whole trips for verdicts: random ones, ones on the two sides of
 each rule's edge, and the clean and the exceeded drive.
 
-A drive is a list of book.Sample with seconds from 0.  Speeds are in tenths of
-km/h; a distance is a sum of speeds over seconds (1/36,000 km).
+A drive is a list of reference.Sample with seconds from 0.  Speeds are in tenths
+of km/h; a distance is a sum of speeds over seconds (1/36,000 km).
 """
 
 from collections import namedtuple
 
-import book
-from book import MOTORWAY, RURAL, URBAN, Sample
+import reference
+from reference import MOTORWAY, RURAL, URBAN, Sample
 
 FILL = dict(altitude=100, temperature=2931, flow=500, nox=20, co2=2000)
 
@@ -28,12 +28,12 @@ def changed(drive, index, **fields):
 
 def calls_of(drive):
     """The drive as a list of calls: its samples, then one verdict."""
-    return [('sample', book.encode_sample(s)) for s in drive] + [('verdict',)]
+    return [('sample', reference.encode_sample(s)) for s in drive] + [('verdict',)]
 
 
 def block_of(drive):
     """The drive as the input of the program `report`."""
-    return b''.join(book.encode_sample(s) for s in drive)
+    return b''.join(reference.encode_sample(s) for s in drive)
 
 
 # --- The parts of a whole drive ----------------------------------------------
@@ -135,7 +135,7 @@ def with_nox_sum(drive, total):
     level, more = divmod(total // 1000, len(drive) - 1)
     for k, sample in enumerate(drive[1:]):
         samples.append(sample._replace(flow=1000, nox=level + (k < more)))
-    assert sum(book.channel_value(s, 6) for s in samples) == total
+    assert sum(reference.channel_value(s, 6) for s in samples) == total
     return samples
 
 
@@ -304,8 +304,8 @@ def air_edges():
 
 def accelerating_count(drive, which):
     """How many samples of one class accelerate."""
-    return sum(1 for s, a in zip(drive, book.accelerations(drive))
-               if book.accelerating(a) and book.speed_class(s.speed) == which)
+    return sum(1 for s, a in zip(drive, reference.accelerations(drive))
+               if reference.accelerating(a) and reference.speed_class(s.speed) == which)
 
 
 def accelerating_edges():
@@ -401,7 +401,7 @@ def line_edge(name, which, rise, means):
     low, high = means[0] * count, means[1] * count
     while high - low > 1:
         middle = (low + high) // 2
-        if book.broken_rules(filled(which, rise, count, middle))[18 + which]:
+        if reference.broken_rules(filled(which, rise, count, middle))[18 + which]:
             low = middle
         else:
             high = middle
@@ -428,7 +428,7 @@ def whole_percentile_edges():
             steps = [20, 10, 10]
             steps[which] = step
             drive = drive_of(whole_speeds(5600, 1000000, 850000, 850000, steps=steps))
-            mask = book.verdict_of(drive)[1]
+            mask = reference.verdict_of(drive)[1]
             if mask == 0:
                 last = drive
             elif mask == 1 << (18 + which) and last is not None:
@@ -520,5 +520,5 @@ def random_verdict_drive(rng, n):
     """A random drive with accelerating samples in all three classes."""
     while True:
         drive = random_drive(rng, n)
-        if all(accelerating_count(drive, c) > 0 for c in book.CLASSES):
+        if all(accelerating_count(drive, c) > 0 for c in reference.CLASSES):
             return drive

@@ -1,4 +1,4 @@
-"""Random lists of calls with their answers by the trip book.
+"""Random lists of calls with their answers by the outside reckoning.
 
 As a module: random_list, long_list, verdict_list, drive_list and named_lists
 give (calls, answers).  As a program it writes such lists as text, one call to a
@@ -8,7 +8,7 @@ line (record bytes in hexadecimal, `-` for an empty record):
     declare 0001...0b -> number 0
     sample - -> refused 1
     read 0 -> number -4
-    verdict -> verdict 000384e1 0 0     (mask, exceeded mark, word)
+    verdict -> verdict 000384e1 0 0     (mask, exceeded mark, finding)
     clear -> number 0
     end
 
@@ -23,9 +23,9 @@ import argparse
 import random
 import sys
 
-import book
 import drives
-from book import LongTrip, Sample, Trip, Window
+import reference
+from reference import LongTrip, Sample, Trip, Window
 
 INT_MIN, INT_MAX = -2 ** 31, 2 ** 31 - 1
 
@@ -46,7 +46,7 @@ SMALL_WIDTHS = (1, 2, 3, 5)
 
 def field_edges(field):
     """The good and the bad edge values of one field."""
-    low, high = book.RANGES[field]
+    low, high = reference.RANGES[field]
     least, most = WIDTHS[field]
     bad = [v for v in (low - 1, high + 1, least, most)
            if least <= v <= most and not low <= v <= high]
@@ -67,7 +67,7 @@ STYLES = ('tiny', 'equal', 'altitudes', 'edges', 'wide', 'ramp')
 
 def random_values(rng, style, before):
     """The values of one sample that lie in their ranges."""
-    ranges = book.RANGES
+    ranges = reference.RANGES
     if style == 'equal' and before is not None and rng.random() < 0.7:
         return before
     if style in ('tiny', 'equal'):
@@ -111,7 +111,8 @@ def random_condition(rng, style, condition):
         value = rng.choice((0, 1, 2, 2931, 600, -3, 100000000))
         return value, value
     if style in ('wide', 'edges', 'ramp'):
-        top = 100000000 if condition == 6 else book.RANGES[list(book.RANGES)[condition]][1]
+        tops = [high for _, high in reference.RANGES.values()] + [100000000]
+        top = tops[condition]
         return tuple(sorted((rng.randint(-500, top), rng.randint(-500, top))))
     if condition == 2:
         return tuple(sorted((rng.randint(2930, 2934), rng.randint(2930, 2934))))
@@ -123,7 +124,7 @@ def random_condition(rng, style, condition):
 # --- Random lists ------------------------------------------------------------
 
 class Maker:
-    """Makes one list of calls, following the book as it goes."""
+    """Makes one list of calls, following the reference model as it goes."""
 
     def __init__(self, rng, max_samples, fault_rate, style=None, trip=None):
         self.rng = rng
@@ -146,7 +147,7 @@ class Maker:
         window = random_window(self.rng, self.style)
         if self.fault():
             window = window._replace(**self.rng.choice(WINDOW_FAULTS))
-        record = book.encode_window(window)
+        record = reference.encode_window(window)
         if self.fault():
             record = bad_length(self.rng, record)
         return self.make(('declare', record))
@@ -157,13 +158,13 @@ class Maker:
         self.before = values
         second = count
         if self.fault():
-            field = rng.choice(list(book.RANGES))
+            field = rng.choice(list(reference.RANGES))
             values = dict(values)
             values[field] = rng.choice(field_edges(field)[1])
         if self.fault():
             second = rng.choice([v for v in (0, 1, count - 1, count + 1, count + 256, 65535)
                                  if v >= 0 and v != count])
-        record = book.encode_sample(Sample(second=second, **values))
+        record = reference.encode_sample(Sample(second=second, **values))
         if self.fault():
             record = bad_length(rng, record)
         return self.make(('sample', record))
@@ -208,7 +209,7 @@ def long_list(rng, samples, windows=16, widths=(1, 2, 3, 5, 17, 100, 599, 600), 
     maker = Maker(rng, samples, 0, trip=LongTrip())
     for _ in range(windows):
         window = random_window(rng, maker.style)._replace(width=rng.choice(widths))
-        maker.make(('declare', book.encode_window(window)))
+        maker.make(('declare', reference.encode_window(window)))
     for _ in range(samples):
         maker.sample()
         if rng.random() < 0.01:
@@ -226,7 +227,7 @@ def read_each_list(rng, samples, windows=16, widths=(1, 2, 3, 5, 599, 600)):
     maker = Maker(rng, samples, 0, trip=LongTrip())
     for number in range(windows):
         window = random_window(rng, maker.style)
-        maker.make(('declare', book.encode_window(
+        maker.make(('declare', reference.encode_window(
             window._replace(function=number % 6, width=rng.choice(widths)))))
     for _ in range(samples):
         maker.sample()
@@ -240,7 +241,7 @@ def read_each_list(rng, samples, windows=16, widths=(1, 2, 3, 5, 599, 600)):
 def drive_list(drive):
     """A drive as a list of calls: its samples, then a verdict."""
     calls = drives.calls_of(drive)
-    return calls, book.replay(calls)
+    return calls, reference.replay(calls)
 
 
 def verdict_list(rng, samples):
@@ -253,7 +254,7 @@ def verdict_each_list(rng, samples):
     calls = []
     for call in drives.calls_of(drives.random_drive(rng, samples))[:-1]:
         calls += [call, ('verdict',)]
-    return calls, book.replay(calls)
+    return calls, reference.replay(calls)
 
 
 # --- Named lists -------------------------------------------------------------
@@ -261,14 +262,14 @@ def verdict_each_list(rng, samples):
 def plain(second, **fields):
     values = dict(speed=300, altitude=100, temperature=2931, flow=500, nox=20, co2=2000)
     values.update(fields)
-    return ('sample', book.encode_sample(Sample(second=second, **values)))
+    return ('sample', reference.encode_sample(Sample(second=second, **values)))
 
 
 WHOLE = Window(3, 0, 0, 0, 5, 0, INT_MIN, INT_MAX)   # largest speed, all qualify
 
 
 def declared(window):
-    return ('declare', book.encode_window(window))
+    return ('declare', reference.encode_window(window))
 
 
 def field_edge_list(field):
@@ -323,14 +324,14 @@ def named_lists():
     lists = {}
     lists.update(marked_case_lists())
     lists.update(refusal_order_lists())
-    for field in book.RANGES:
+    for field in reference.RANGES:
         lists['edges-' + field] = field_edge_list(field)
     lists['window-faults'] = [declared(WHOLE._replace(**fault)) for fault in WINDOW_FAULTS]
     lists['window-edges'] = [declared(WHOLE._replace(**good)) for good in (
         dict(function=0), dict(function=5), dict(channel=6), dict(condition=6), dict(width=1),
         dict(width=600), dict(low=0, high=0), dict(low=INT_MIN, high=INT_MIN),
         dict(low=INT_MAX, high=INT_MAX))] + [('read', k) for k in range(10)]
-    return {name: (calls, book.replay(calls)) for name, calls in lists.items()}
+    return {name: (calls, reference.replay(calls)) for name, calls in lists.items()}
 
 
 def full_trip_list():
@@ -338,7 +339,7 @@ def full_trip_list():
     calls = drives.calls_of(drives.clean_drive(7201))
     calls += [plain(7201), plain(0), plain(7201, speed=3001), ('sample', b''), ('close',),
               plain(7201), ('verdict',), ('clear',), plain(0)]
-    return calls, book.replay(calls)
+    return calls, reference.replay(calls)
 
 
 def drive_lists():
@@ -361,16 +362,16 @@ def random_block(rng, max_samples=6):
     for _ in range(rng.randint(0, max_samples)):
         values = random_values(rng, style, None)
         if faulty and rng.random() < 0.3:
-            field = rng.choice(list(book.RANGES))
+            field = rng.choice(list(reference.RANGES))
             values[field] = rng.choice(field_edges(field)[1])
         if rng.random() < 0.3:
             values['speed'] = rng.choice(drives.EDGE_SPEEDS)
-        block += book.encode_sample(Sample(second=rng.randint(0, 65535), **values))
+        block += reference.encode_sample(Sample(second=rng.randint(0, 65535), **values))
     return block + bytes(rng.choice((1, 15))) if rng.random() < 0.1 else block
 
 
 def random_out_length(rng):
-    return rng.choice((0, 103, 105)) if rng.random() < 0.05 else book.TALLY_LENGTH
+    return rng.choice((0, 103, 105)) if rng.random() < 0.05 else reference.TALLY_LENGTH
 
 
 def random_tally(rng):
@@ -378,7 +379,7 @@ def random_tally(rng):
     N = rng.choice(([0, 0, 0], [1, 2, 3], [7201, 0, 0], [0, 7200, 0], [0, 0, 3601],
                     [3600, 0, 0], [2400, 2400, 2401], [2400, 2401, 2401], [2 ** 64 - 1, 1, 0],
                     [2 ** 63, 2 ** 63, 5]))
-    together = min(sum(N), book.MAX_SAMPLES)
+    together = min(sum(N), reference.MAX_SAMPLES)
     bounds = [min(2 ** 64 - 1, top * n) for top, n in zip((600, 900, 3000), N)]
     bounds += [together] * 6 + [100000000 * together]
     fields = N + [rng.randint(0, bound) for bound in bounds]
@@ -386,13 +387,13 @@ def random_tally(rng):
     fields[3 + k] = rng.choice((bounds[k], bounds[k], min(bounds[k] + 1, 2 ** 64 - 1)))
     if rng.random() < 0.05:
         fields[rng.randrange(13)] = rng.choice((2 ** 64 - 1, 2 ** 63))
-    tally = book.TALLY_LAYOUT.pack(*fields)
+    tally = reference.TALLY_LAYOUT.pack(*fields)
     return (tally + tally)[:rng.choice((0, 103, 105, 208))] if rng.random() < 0.05 else tally
 
 
 def tally_line(block, out_length):
     """One text line: the tally of a block."""
-    answer = book.tally_block(block, out_length)
+    answer = reference.tally_block(block, out_length)
     text = 'bytes ' + answer.hex() if isinstance(answer, bytes) else answer_text(answer)
     return 'tally %s %d -> %s\n' % (hex_text(block), out_length, text)
 
@@ -402,15 +403,16 @@ def named_tallies():
     edge of each range, and with several refusals at once."""
     drive = drives.block_of(drives.clean_drive(7200)) + drives.block_of(drives.drive_of([500, 3000]))
     one = drive[:16]
-    bad = book.encode_sample(book.decode_sample(one)._replace(speed=3001))
+    first = reference.decode_sample(one)
+    bad = reference.encode_sample(first._replace(speed=3001))
     blocks = [b'', one, drive[:16 * 7201], drive, drive[:16 * 7201] + b'x', drive + b'x',
               drive[:16 * 7200] + bad, drive[:16 * 7201] + bad, bad, one + bad, bad + one]
     blocks += [one[:n] for n in range(1, 16)] + [one * 2 + one[:n] for n in (1, 8, 15)]
-    for field in book.RANGES:
+    for field in reference.RANGES:
         for values in field_edges(field):
             for value in values:
-                blocks.append(book.encode_sample(book.decode_sample(one)._replace(**{field: value})))
-    lengths = [(block, book.TALLY_LENGTH) for block in blocks]
+                blocks.append(reference.encode_sample(first._replace(**{field: value})))
+    lengths = [(block, reference.TALLY_LENGTH) for block in blocks]
     lengths += [(block, n) for block in (b'', one, bad, b'x', drive) for n in (0, 1, 103, 105, 208)]
     return [tally_line(block, n) for block, n in lengths]
 
@@ -421,7 +423,7 @@ def tally_case(rng):
     if rng.random() < 0.4:
         return tally_line(random_block(rng), out_length)
     a, b = random_tally(rng), random_tally(rng)
-    answer = book.join(a, b, out_length)
+    answer = reference.join(a, b, out_length)
     text = 'bytes ' + answer.hex() if isinstance(answer, bytes) else answer_text(answer)
     return 'join %s %s %d -> %s\n' % (hex_text(a), hex_text(b), out_length, text)
 
@@ -461,7 +463,7 @@ def coverage(lists):
             if kind == ('clear', 0):
                 windows = []
             if kind == ('declare', 0):
-                windows.append(book.decode_window(call[1]))
+                windows.append(reference.decode_window(call[1]))
             if kind == ('read', 0):
                 sign = 'negative' if answer[1] < 0 else 'positive'
                 key = (windows[call[1]].function, sign)

@@ -7,11 +7,11 @@ import random
 import sys
 
 import antt
-import book
 import drives
 import generate
-from book import (AVERAGE, COUNT, LARGEST, PERCENTILE, SMALLEST, SUM, Sample,
-                  Trip, Window)
+import reference
+from reference import (AVERAGE, COUNT, LARGEST, PERCENTILE, SMALLEST, SUM, Sample,
+                       Trip, Window)
 
 RESULTS = []
 
@@ -29,13 +29,13 @@ def make_trip(windows, samples):
     the answers of its sample calls."""
     trip = Trip()
     for window in windows:
-        assert trip.declare(book.encode_window(window))[0] == 'number'
+        assert trip.declare(reference.encode_window(window))[0] == 'number'
     answers = []
     for second, values in enumerate(samples):
         fields = dict(second=second, speed=0, altitude=0, temperature=2931,
                       flow=0, nox=0, co2=0)
         fields.update(values)
-        answers.append(trip.sample(book.encode_sample(Sample(**fields))))
+        answers.append(trip.sample(reference.encode_sample(Sample(**fields))))
     return trip, answers
 
 
@@ -65,8 +65,8 @@ def case_b():
 
 
 def case_c():
-    check('(c) percentile of 1..20', book.percentile(list(range(1, 21))), 19)
-    check('(c) percentile of 1..21', book.percentile(list(range(1, 22))), 20)
+    check('(c) percentile of 1..20', reference.percentile(list(range(1, 21))), 19)
+    check('(c) percentile of 1..21', reference.percentile(list(range(1, 22))), 20)
     for top, expected in ((20, 19), (21, 20)):
         trip, _ = make_trip([window(PERCENTILE, 0, 600)],
                             [dict(speed=v) for v in range(1, top + 1)])
@@ -74,13 +74,13 @@ def case_c():
 
 
 def case_d():
-    check('(d) empty report', book.report(b''),
+    check('(d) empty report', reference.report(b''),
           b'samples 0\nbroken 000384e1\nverdict rule 0\n')
-    one = book.encode_sample(Sample(0, 1700, 100, 2931, 0, 0, 0))
-    check('(d) report of one sample', book.report(one),
+    one = reference.encode_sample(Sample(0, 1700, 100, 2931, 0, 0, 0))
+    check('(d) report of one sample', reference.report(one),
           b'samples 1\nbroken 00038cfd\nverdict rule 0\n')
-    check('report of 15 bytes', book.report(one[:15]), b'refused 1 at 0\n')
-    check('report of a second out of turn', book.report(one + one),
+    check('report of 15 bytes', reference.report(one[:15]), b'refused 1 at 0\n')
+    check('report of a second out of turn', reference.report(one + one),
           b'refused 3 at 1\n')
 
 
@@ -100,12 +100,12 @@ def case_g():
     for p95, broken in ((48003, False), (48004, True)):
         for count in (1, 100):
             check('(g) P95 %d, N %d' % (p95, count),
-                  book.above_percentile_line(p95, 300 * count, count), broken)
+                  reference.above_percentile_line(p95, 300 * count, count), broken)
 
 
 def case_h():
-    check('(h) A of 7', book.accelerating(7), False)
-    check('(h) A of 8', book.accelerating(8), True)
+    check('(h) A of 7', reference.accelerating(7), False)
+    check('(h) A of 8', reference.accelerating(8), True)
 
 
 def case_i():
@@ -116,19 +116,19 @@ def case_i():
 # --- The examples of the refusal table ---------------------------------------
 
 def refusal_examples():
-    good = book.encode_sample(Sample(0, 0, 0, 2931, 0, 0, 0))
-    wide = book.encode_window(window(SMALLEST, 0, 3))
+    good = reference.encode_sample(Sample(0, 0, 0, 2931, 0, 0, 0))
+    wide = reference.encode_window(window(SMALLEST, 0, 3))
     check('1 sample of 15 bytes', Trip().sample(good[:15]), ('refused', 1))
     trip = Trip()
     check('2 close twice', [trip.close(), trip.close()], [('number', 0), ('refused', 2)])
-    first_one = book.encode_sample(Sample(1, 0, 0, 2931, 0, 0, 0))
+    first_one = reference.encode_sample(Sample(1, 0, 0, 2931, 0, 0, 0))
     check('3 first second 1', Trip().sample(first_one), ('refused', 3))
-    fast = book.encode_sample(Sample(0, 3001, 0, 2931, 0, 0, 0))
+    fast = reference.encode_sample(Sample(0, 3001, 0, 2931, 0, 0, 0))
     check('4 speed 3001', Trip().sample(fast), ('refused', 4))
-    block = b''.join(book.encode_sample(Sample(k, 0, 0, 2931, 0, 0, 0)) for k in range(7202))
-    check('5 sample 7202', book.report(block), b'refused 5 at 7201\n')
-    check('5 block of 7202', book.tally_block(block, 104), ('refused', 5))
-    check('6 width 0', Trip().declare(book.encode_window(window(COUNT, 0, 0))), ('refused', 6))
+    block = b''.join(reference.encode_sample(Sample(k, 0, 0, 2931, 0, 0, 0)) for k in range(7202))
+    check('5 sample 7202', reference.report(block), b'refused 5 at 7201\n')
+    check('5 block of 7202', reference.tally_block(block, 104), ('refused', 5))
+    check('6 width 0', Trip().declare(reference.encode_window(window(COUNT, 0, 0))), ('refused', 6))
     trip = Trip()
     check('7 declare, second 0, declare',
           [trip.declare(wide), trip.sample(good), trip.declare(wide)],
@@ -140,18 +140,18 @@ def refusal_examples():
     trip = Trip()
     trip.declare(wide)
     check('10 read before sampling', trip.read(0), ('refused', 10))
-    full = book.tally_block(block[:-16], 104)
-    one = book.tally_block(good, 104)
-    check('11 output of 103 bytes', book.tally_block(b'', 103), ('refused', 11))
-    crooked = book.TALLY_LAYOUT.pack(0, 0, 0, 1, 0, 0, 0, 0, 0, 0, 0, 0, 0)
-    check('12 S of u 1, N 0', book.join(crooked, one, 104), ('refused', 12))
-    check('12 tally of 103 bytes', book.join(one, one[:103], 104), ('refused', 12))
-    check('13 7201 and 1', book.join(full, one, 104), ('refused', 13))
-    check('tally of nothing', book.tally_block(b'', 104), bytes(104))
+    full = reference.tally_block(block[:-16], 104)
+    one = reference.tally_block(good, 104)
+    check('11 output of 103 bytes', reference.tally_block(b'', 103), ('refused', 11))
+    crooked = reference.TALLY_LAYOUT.pack(0, 0, 0, 1, 0, 0, 0, 0, 0, 0, 0, 0, 0)
+    check('12 S of u 1, N 0', reference.join(crooked, one, 104), ('refused', 12))
+    check('12 tally of 103 bytes', reference.join(one, one[:103], 104), ('refused', 12))
+    check('13 7201 and 1', reference.join(full, one, 104), ('refused', 13))
+    check('tally of nothing', reference.tally_block(b'', 104), bytes(104))
     half = 16 * 3600
     check('tallies of two parts join to the whole',
-          book.join(book.tally_block(block[:half], 104),
-                    book.tally_block(block[half:-16], 104), 104), full)
+          reference.join(reference.tally_block(block[:half], 104),
+                         reference.tally_block(block[half:-16], 104), 104), full)
 
 
 # --- The rolling recount -----------------------------------------------------
@@ -166,8 +166,8 @@ def recount(seed, lists):
                    for _ in range(rng.randint(1, 4))]
         samples = [Sample(k, rng.randint(0, top), 0, 2931, 0, rng.randint(0, 3), 0)
                    for k in range(rng.randint(1, 60))]
-        slow = [book.moves(windows, samples[:k + 1]) for k in range(len(samples))]
-        differing += slow != book.moves_fast(windows, samples)
+        slow = [reference.moves(windows, samples[:k + 1]) for k in range(len(samples))]
+        differing += slow != reference.moves_fast(windows, samples)
     check('moves_fast equals moves on %d lists' % lists, differing, 0)
 
 
@@ -194,12 +194,12 @@ def definitions(seed, lists):
     percentiles = held = 0
     for _ in range(lists):
         values = [rng.randint(-9, 9) for _ in range(rng.randint(1, 60))]
-        percentiles += book.percentile(values) != literal_percentile(values)
+        percentiles += reference.percentile(values) != literal_percentile(values)
         some = window(rng.choice((SMALLEST, LARGEST)), 0, rng.choice((1, 2, 3, 5, 20)),
                       condition=4, low=0, high=rng.choice((0, 1, 3)))
         samples = [Sample(k, rng.randint(0, 5), 0, 2931, 0, rng.randint(0, 3), 0)
                    for k in range(rng.randint(0, 30))]
-        held += book.held_entries(some, samples) != literal_held(some, samples)
+        held += reference.held_entries(some, samples) != literal_held(some, samples)
     check('percentiles by the definition', percentiles, 0)
     check('held entries by the definition', held, 0)
 
@@ -215,7 +215,7 @@ def edge_drives():
     drives are clean on one side and break that rule alone on the other."""
     reached = set()
     for edge in drives.all_edges():
-        kept, broken = book.verdict_of(edge.kept), book.verdict_of(edge.broken)
+        kept, broken = reference.verdict_of(edge.kept), reference.verdict_of(edge.broken)
         check('edge: %s' % edge.name,
               (bit_of(kept, edge.bit), bit_of(broken, edge.bit)), (0, 1))
         reached.add((edge.bit, edge.whole))
@@ -233,7 +233,7 @@ def edge_drives():
 def line_sides():
     """The rural edges lie on the intended sides of 746 x N."""
     def side(drive):
-        speeds = [s.speed for s in drive if book.speed_class(s.speed) == book.RURAL]
+        speeds = [s.speed for s in drive if reference.speed_class(s.speed) == reference.RURAL]
         return 'first' if sum(speeds) <= 746 * len(speeds) else 'second'
     sides = {edge.name: (side(edge.kept), side(edge.broken))
              for edge in drives.percentile_edges()}
@@ -243,17 +243,17 @@ def line_sides():
 
 
 def whole_drives():
-    for n, word, text in ((5399, 0, b'rule 0'), (5400, 33, b'clean'),
+    for n, finding, text in ((5399, 0, b'rule 0'), (5400, 33, b'clean'),
                           (7200, 33, b'clean'), (7201, 1, b'rule 1')):
         drive = drives.clean_drive(n)
-        check('clean drive of %d samples' % n, (len(drive), book.verdict_of(drive)[3]),
-              (n, word))
-        check('its report', book.report(drives.block_of(drive)).splitlines()[2],
+        check('clean drive of %d samples' % n, (len(drive), reference.verdict_of(drive)[3]),
+              (n, finding))
+        check('its report', reference.report(drives.block_of(drive)).splitlines()[2],
               b'verdict ' + text)
     for n in (5400, 7200):
-        check('exceeded drive of %d samples' % n, book.verdict_of(drives.exceeded_drive(n)),
+        check('exceeded drive of %d samples' % n, reference.verdict_of(drives.exceeded_drive(n)),
               ('verdict', 0, 1, 32))
-    check('its report', book.report(drives.block_of(drives.exceeded_drive())),
+    check('its report', reference.report(drives.block_of(drives.exceeded_drive())),
           b'samples 5400\nbroken 00000000\nverdict exceeded\n')
 
 
@@ -277,13 +277,13 @@ def random_lists():
     calls, answers = generate.full_trip_list()
     check('after 7201 samples', answers[7202:7207],
           [('refused', 5)] * 3 + [('refused', 1), ('number', 0)])
-    # the rolling recount against the rereading book, on whole lists of calls
+    # the rolling recount against the rereading model, on whole lists of calls
     differing = 0
     for calls, answers in lists:
-        differing += book.replay(calls, book.LongTrip()) != answers
+        differing += reference.replay(calls, reference.LongTrip()) != answers
     check('LongTrip answers as Trip on %d lists' % len(lists), differing, 0)
     calls, answers = generate.long_list(random.Random(2), 700, windows=8)
-    check('LongTrip answers as Trip on a list of 700 samples', book.replay(calls), answers)
+    check('LongTrip answers as Trip on a list of 700 samples', reference.replay(calls), answers)
 
 
 def tally_cases():
@@ -298,9 +298,9 @@ def tally_cases():
 
 def small_drives():
     for calls, answers in antt.verdict_lists(random.Random(1), 20):
-        samples = [book.decode_sample(call[1]) for call in calls[:-1]]
-        lively = [drives.accelerating_count(samples, c) for c in book.CLASSES]
-        if not (60 <= len(samples) <= 90 and min(lively) > 0):
+        samples = [reference.decode_sample(call[1]) for call in calls[:-1]]
+        accelerating = [drives.accelerating_count(samples, c) for c in reference.CLASSES]
+        if not (60 <= len(samples) <= 90 and min(accelerating) > 0):
             check('a drive of 60 to 90 samples, accelerating in all classes', False, True)
             return
     check('drives of 60 to 90 samples, accelerating in all classes', True, True)

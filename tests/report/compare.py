@@ -1,6 +1,6 @@
 """compare.py PROGRAM: runs the program `report` on inputs of every kind and
 compares what it writes, byte for byte, with the outside reckoning (the same as
-`python3 tests/reckoning/book.py < input`).  The last line is 'N passed, M
+`python3 tests/reckoning/reference.py < input`).  The last line is 'N passed, M
 failed'.
 """
 
@@ -13,11 +13,11 @@ import time
 HERE = os.path.dirname(os.path.abspath(__file__))
 sys.path.insert(0, os.path.join(HERE, '..', 'reckoning'))
 
-import book  # noqa: E402
 import drives  # noqa: E402
+import reference  # noqa: E402
 
 PROGRAM = os.path.abspath(sys.argv[1])
-SAMPLE_1700 = book.Sample(second=0, speed=1700, altitude=100, temperature=2931, flow=0, nox=0, co2=0)
+SAMPLE_1700 = reference.Sample(second=0, speed=1700, altitude=100, temperature=2931, flow=0, nox=0, co2=0)
 SAMPLE_1700_REPORT = b'samples 1\nbroken 00038cfd\nverdict rule 0\n'
 EMPTY_REPORT = b'samples 0\nbroken 000384e1\nverdict rule 0\n'
 
@@ -119,11 +119,11 @@ def main():
     compared('the empty report of document 01', at_once(b''), EMPTY_REPORT)
     compared('the 1700 report of document 01', at_once(drives.block_of([SAMPLE_1700])), SAMPLE_1700_REPORT)
     for name, data in inputs():
-        expected = book.report(data)
+        expected = reference.report(data)
         compared(name, at_once(data), expected)
         compared(name + ', from a file', from_file(data), expected)
     for name, data, lengths in arrivals():
-        compared(name, in_pieces(data, lengths), book.report(data))
+        compared(name, in_pieces(data, lengths), reference.report(data))
     print('%d passed, %d failed' % (passed, failed))
     return failed != 0
 

@@ -1,11 +1,10 @@
 -- Each accepted call, as a law on the area's parts: what it did to them makes them stand for the model's next trip. Assumes nothing.
 use mathlib.Core.Bool.{Bool, true, false, true≢false}
 use mathlib.Core.List.{List, [], _∷_, _++_, map}
-use mathlib.Core.Path.{_≡_, refl, sym, ap, ap₂, _∙_, subst}
-use Prim.Native.Nat.{ℕ, suc, _+_, _*_, _^_, _≤_, _<_}
+use mathlib.Core.Path.{_≡_, refl, sym, ap, _∙_, subst}
+use Prim.Native.Nat.{ℕ, _+_, _^_, _≤_, _<_}
 use native.Mathlib.Nat.{mul-le-mul-right}
 use native.Mathlib.Omega.{arith}
-use native.Mathlib.Numerals.{add-one}
 use borrow.Author.Tests.{le-leb}
 use lib.Dec.{lit<}
 use lib.IntN.{ℤ, pos, natAbs}
@@ -27,15 +26,14 @@ use Rattle.slide.specs.Lists.{All}
 use Rattle.slide.specs.Moves.{counted-moves, moves-bound}
 use Rattle.slots.specs.Layout.{movesOf}
 use Rattle.tally.specs.Add.{added, tally-more}
-use Rattle.tally.specs.Bytes.{tallyRead, tally-back, tally-illformed}
-use Rattle.tally.specs.declared.TallyRead.the-variants.{IllFormed}
+use Rattle.tally.specs.Bytes.{tally-back}
 use Rattle.tally.specs.Sound.{AllInRange, Positive, WellFormed, facts-sound, tally-positive, tally-well, well-small, positive-plus}
 use Rattle.window.specs.Read.{Reads}
 use Rattle.window.specs.Sound as Unsound
 use Rattle.window.specs.Stand as window
 use Rattle.window.specs.Sweep.{Added}
 use Rattle.window.specs.declared.Reading.the-variants.{Value, NoneQualifies}
-use Rattle.calls.specs.Area.{areaLen, Parts, partsOf, Holds, Stands, markOf}
+use Rattle.calls.specs.Area.{areaLen, Parts, partsOf, Holds, Stands}
 use Rattle.calls.specs.Parts.{withSamples, withMark, withWindows, withTally, withSpeeds, withSlots}
 use Rattle.calls.specs.Effects.{SpeedAdded, WindowsStepped, WindowAdded, WindowsCleared, Taken, CountedMoves, Accepts}
 use Rattle.rule.specs.Speeds.{Appended, Stored}
@@ -154,9 +152,9 @@ sample-taken (refused k) size size′ whole free room turn i en x =
     rw (y .0) (sample-damaged size whole k (y .1 .0) (y .1 .1))
 
 -- an area whose tally is ill-formed, or that has too many windows or samples, stands for no trip
-pub ill-formed : (s : List ℕ) → IllFormed ≡ tallyRead (partsOf s .tally) → (t : Trip) → Stands s t → ⊥
+pub ill-formed : (s : List ℕ) → sound (tallyFrom (partsOf s .tally)) ≡ false → (t : Trip) → Stands s t → ⊥
 ill-formed s e t st =
-    true≢false (sym (rw (tally-held (partsOf s) t (st .holds)) (facts-sound (tallyOf (t .samples)) (tally-held-well (partsOf s) t (st .holds) .facts))) ∙ tally-illformed (partsOf s .tally) e)
+    true≢false (sym (rw (tally-held (partsOf s) t (st .holds)) (facts-sound (tallyOf (t .samples)) (tally-held-well (partsOf s) t (st .holds) .facts))) ∙ e)
 
 pub many-windows : (s : List ℕ) → maxWindows < partsOf s .windows → (t : Trip) → Stands s t → ⊥
 many-windows s h t st = omega (arith, st .holds .windows, st .holds .slots .windows)

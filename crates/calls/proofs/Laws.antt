@@ -5,7 +5,7 @@ use mathlib.Core.Path.{_≡_, refl}
 use Prim.Native.Nat.{ℕ, _<_}
 use native.Mathlib.Omega.{arith}
 use lib.ListN.{length}
-use Rattle.model.specs.Trip.{Trip, Call, clear, declare, sample, close, read, verdict, Answer, refused, Outcome, refuse, accept, outcome, said, left}
+use Rattle.model.specs.Trip.{Trip, Call, clear, declare, sample, close, read, verdict, Answer, refused, refuse, accept, outcome, said, left}
 use Rattle.calls.specs.Area.{areaLen, Stands, markOf}
 use Rattle.calls.specs.Step.{Step, Fresh, Sized}
 

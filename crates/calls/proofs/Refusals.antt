@@ -1,8 +1,8 @@
 -- Each refusal of each call, in the order of document 01, as a law on the area's parts: what the tests before it found, and the test that refuses.
 -- Assumes nothing.
-use mathlib.Core.Bool.{Bool, true, false, cond, not}
+use mathlib.Core.Bool.{false, cond, not}
 use mathlib.Core.List.{List}
-use mathlib.Core.Path.{_≡_, refl, sym, ap, _∙_}
+use mathlib.Core.Path.{_≡_, refl, sym, _∙_}
 use Prim.Native.Nat.{ℕ, _≤_, _<_}
 use native.Mathlib.Omega.{arith}
 use borrow.Author.Tests.{ne-eqb, eq-eqb, le-leb, lt-leb, lt-ltb, le-ltb}
@@ -94,9 +94,6 @@ module _ {s r : List ℕ} (size : length s ≡ areaLen) where
     -- a refusal of a declare, where the record has its length
     declare-refused : (k : ℕ) → 0 < k → ((t : Trip) → Stands s t → outcome t (declare r) ≡ refuse k) → Step (declare r) s (refused k) s
     declare-refused k p g = refused-step (declare r) s k p size (λ _ n. absurd (n whole)) tt g
-
-    pub declare-damaged : (k : ℕ) → 0 < k → ((t : Trip) → Stands s t → ⊥) → Step (declare r) s (refused k) s
-    declare-damaged k p g = declare-refused k p (λ t st. absurd (g t st))
 
     pub declare-closed : (partsOf s .mark ≡ 0 → ⊥) → Step (declare r) s (refused 2) s
     unfolding outcome unless declareRefusals

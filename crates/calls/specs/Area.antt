@@ -1,10 +1,10 @@
 -- The state area: its parts, and the trip that they stand for.
 --          0      64   head: number of samples (u32 at 0), closed mark (u32 at 4), number of windows (u32 at 8)
---         64     112   tally: thirteen u64 (104 bytes, and room for one more)
---        176       8   room for two altitudes
+--         64     112   tally: thirteen u64 (104 bytes; 8 more are reserved)
+--        176       8   reserved
 --        184  14,404   speeds: u16 by second
 --     14,588  48,680   windows: the ring of the last 610 records, the move count, 16 slots (crate slots)
---     63,268     264   room for stream expressions
+--     63,268     264   reserved
 use mathlib.Core.Bool.{Bool, true, false}
 use mathlib.Core.List.{List, map}
 use mathlib.Core.Path.{_≡_}
@@ -22,15 +22,6 @@ abbrev pub areaLen : ℕ
 areaLen = 63532
 
 -- the places of the parts, and the lengths of the last two
-abbrev pub samplesPlace : ℕ
-samplesPlace = 0
-
-abbrev pub markPlace : ℕ
-markPlace = 4
-
-abbrev pub windowsPlace : ℕ
-windowsPlace = 8
-
 abbrev pub tallyPlace : ℕ
 tallyPlace = 64
 
@@ -60,9 +51,9 @@ pub record Parts : Type 0 where
 
 unfoldable pub partsOf : List ℕ → Parts
 partsOf area = record {
-  samples = leAt 4 area samplesPlace;
-  mark = leAt 4 area markPlace;
-  windows = leAt 4 area windowsPlace;
+  samples = leAt 4 area 0;
+  mark = leAt 4 area 4;
+  windows = leAt 4 area 8;
   tally = part area tallyPlace tallyLength;
   speeds = part area speedsPlace speedsLen;
   slots = part area slotsPlace slotsLen;

@@ -15,7 +15,7 @@ use Rattle.tally.specs.Add.{added}
 use Rattle.window.specs.Sweep.{Stepped, Added}
 use Rattle.window.specs.Stand as window
 use Rattle.calls.specs.Area.{Parts, partsOf, Stands}
-use Rattle.calls.specs.Parts.{withSamples, withWindows, withTally, withSpeeds, withSlots}
+use Rattle.calls.specs.Parts.{withSamples, withTally, withSpeeds, withSlots}
 
 -- a speed is added after the first n
 pub record SpeedAdded (n : ℕ) (v : Speed) (p q : Parts) : Type 0 where

@@ -1,8 +1,8 @@
 -- THE THEOREM about every list of calls (document 01, "The trip book"; demand 3).
 use mathlib.Core.Bool.{true}
-use mathlib.Core.List.{List, [], _∷_}
+use mathlib.Core.List.{List, _∷_}
 use mathlib.Core.Path.{_≡_, refl, ap, _∙_}
-use Prim.Native.Nat.{ℕ, _+_, _*_, _≤_, _<_}
+use Prim.Native.Nat.{ℕ, _*_, _≤_, _<_}
 use native.Mathlib.Omega.{arith}
 use lib.ListN.{length}
 use Rattle.model.specs.Numbers.{total}
@@ -10,12 +10,11 @@ use Rattle.model.specs.Windows.{keepsEntries, entries, held, moves}
 use Rattle.model.specs.Trip.{Trip, empty, Call, clear, Answer, outcome, said, left, answers, after, next, windowAt}
 use Rattle.slide.specs.Held.{held-rising}
 use Rattle.slide.specs.Lists.{Rising}
-use Rattle.slide.specs.Moves.{counted-moves, moves-counted, entriesIn}
+use Rattle.slide.specs.Moves.{counted-moves, moves-counted}
 use Rattle.slots.specs.Layout.{movesOf}
 use Rattle.slots.specs.Lists.{listOf}
 use Rattle.calls.specs.Area.{areaLen, partsOf, Stands}
-use Rattle.calls.specs.Step.{Step, Run, done, call, aside}
-use Rattle.window.specs.Stand.{windowOfList}
+use Rattle.calls.specs.Step.{Run, done, call, aside}
 
 -- of a list of calls from a fresh area: the answers `given` and the area `s` that it leaves
 pub record Claim (cs : List Call) (given : List Answer) (s : List ℕ) : Type 0 where

@@ -92,8 +92,3 @@ numbers-push w xs n v h k = cells-push w leVal xs n (leBytes w v) h (bytes-lengt
 pub numbers-at : (w : ℕ) (xs : List ℕ) (n i : ℕ) → i < n → leAt w xs (w * i) ≡ getD (cells w leVal xs n) i 0
 unfolding leAt part
 numbers-at w xs n i h = sym (cells-at w leVal xs n i 0 h)
-
--- a number of w bytes written among n
-pub numbers-set : (w : ℕ) (xs : List ℕ) (n i v : ℕ) → i < n → w * n ≤ length xs → v < 256 ^ w → cells w leVal (putLe w xs (w * i) v) n ≡ set (cells w leVal xs n) i v
-unfolding putLe
-numbers-set w xs n i v h r k = cells-set w leVal xs n i (leBytes w v) h r (bytes-length w v) ∙ ap (set (cells w leVal xs n) i) (val-bytes w v k)

@@ -8,7 +8,7 @@ use native.Mathlib.Omega.{arith}
 use lib.ListN.{length, getD}
 use lib.Seq.{drop-cons}
 use Rattle.model.specs.Numbers.{leVal, leBytes, leAt}
-use Rattle.field.specs.Part.{part, put, put-length, part-same, part-other, part-part, Apart, put-in}
+use Rattle.field.specs.Part.{part, put, put-length, part-same, part-other, part-part, Apart}
 
 unfoldable pub putLe : ℕ → List ℕ → ℕ → ℕ → List ℕ
 putLe n xs a v = put xs a (leBytes n v)
@@ -61,11 +61,6 @@ pub le-part : (xs : List ℕ) (a n m b : ℕ) → b + m ≤ n → leAt m (part x
 unfolding leAt part
 le-part xs a n m b h = ap leVal (part-part xs a n b m h)
 
--- a field written at its place in the whole is a put of the part that it is of
-pub le-in : (n : ℕ) (xs : List ℕ) (a m b v : ℕ) → b + n ≤ m → a + m ≤ length xs → putLe n xs (a + b) v ≡ put xs a (putLe n (part xs a m) b v)
-unfolding putLe
-le-in n xs a m b v h k = put-in xs a m b (leBytes n v) (rw bytes-length h) k
-
 -- a field of no bytes, and of one byte more
 pub le-zero : (xs : List ℕ) (a : ℕ) → leAt 0 xs a ≡ 0
 unfolding leAt leVal
@@ -78,12 +73,3 @@ le-suc n xs a h = rw (drop-cons xs a 0)
 -- a field of one byte is the byte
 pub le-one : (xs : List ℕ) (a : ℕ) → a < length xs → leAt 1 xs a ≡ getD xs a 0
 le-one xs a h = le-suc 0 xs a h ∙ rw (le-zero xs (suc a)) (omega arith)
-
--- a field of bytes is below 256 ^ n
-pub le-below : (n : ℕ) (xs : List ℕ) (a : ℕ) → a + n ≤ length xs → ((i : ℕ) → getD xs i 0 < 256) → leAt n xs a < 256 ^ n
-le-below zero xs a h k = rw le-zero (omega arith)
-le-below (suc n) xs a h k =
-    let i : leAt n xs (suc a) < 256 ^ n = le-below n xs (suc a) (omega arith) k in
-    let b : getD xs a 0 < 256 = k a in
-    let l : a < length xs = omega arith in
-    rw (le-suc n xs a l, pow-suc) (omega arith)

@@ -2,3 +2,4 @@ pub mod Part
 pub mod Le
 pub mod Twos
 pub mod Cells
+pub mod Tests

@@ -12,8 +12,7 @@ use mir.Syntax.{Width, w64}
 use mir.Val.{SFits, toZ, ofZ, bits, hbits, sel}
 use mir.ValLaws.{toZ-ofZ, ofZ-fits, bits-suc}
 use Rattle.model.specs.Numbers.{leAt, signed}
-use Rattle.field.specs.Part.{Apart}
-use Rattle.field.specs.Le.{putLe, le-same, le-other}
+use Rattle.field.specs.Le.{putLe, le-same}
 
 abbrev pub unsigned : ℕ → ℤ → ℕ
 unsigned n (pos k) = k
@@ -52,7 +51,3 @@ pub i64-same : (xs : List ℕ) (a : ℕ) (z : ℤ) → a + 8 ≤ length xs → S
 i64-same xs a z h f =
     rw (unsigned-ofZ z)
     (ap (signed 8) (le-same 8 xs a (ofZ w64 z) h (ofZ-fits w64 z f .fits)) ∙ signed-toZ w64 8 (ofZ w64 z) refl ∙ toZ-ofZ w64 z f)
-
--- an i64, after a field apart from it was written
-pub i64-other : (n : ℕ) (xs : List ℕ) (a v b : ℕ) → Apart a n b 8 → signed 8 (leAt 8 (putLe n xs a v) b) ≡ signed 8 (leAt 8 xs b)
-i64-other n xs a v b o = ap (signed 8) (le-other n xs a v 8 b o)

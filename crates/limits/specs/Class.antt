@@ -1,7 +1,6 @@
 -- The class of a speed: the one class that document 01's `inClass` holds of. Assumes nothing.
 use mathlib.Core.Path.{_≡_, refl}
 use mathlib.Core.Bool.{Bool, true, false, cond}
-use Prim.Native.Nat.{_≤_}
 use native.Mathlib.Omega.{arith}
 use borrow.Author.Tests.{leb-true, leb-false, le-ltb, lt-ltb}
 use lib.Dec.{leb}
@@ -11,7 +10,6 @@ use Rattle.model.specs.declared.SpeedClass.{SpeedClass}
 use Rattle.model.specs.declared.SpeedClass.the-variants.{Urban, Rural, Motorway}
 use Rattle.model.specs.Records.{tenths}
 use Rattle.model.specs.Rules.{inClass, speed}
-use Rattle.limits.specs.Table.{row, figure, upper}
 
 unfoldable pub classOf : Speed → SpeedClass
 classOf v = cond (leb (tenths v) 600) Urban (cond (leb (tenths v) 900) Rural Motorway)
@@ -41,13 +39,3 @@ in-class c s = by c (leb (speed s) 600) refl (leb (speed s) 900) refl
     by Motorway true e b f = le-ltb 900 (speed s) (omega (arith, leb-true (speed s) 600 e))
     by Motorway false e true f = le-ltb 900 (speed s) (leb-true (speed s) 900 f)
     by Motorway false e false f = lt-ltb 900 (speed s) (leb-false (speed s) 900 f)
-
--- no speed is above its class's upper limit
-pub class-most : (v : Speed) → tenths v ≤ 3000 → tenths v ≤ upper (classOf v)
-unfolding classOf figure row
-class-most v h = by (leb (tenths v) 600) refl (leb (tenths v) 900) refl
-  where
-    by : (a : Bool) → leb (tenths v) 600 ≡ a → (b : Bool) → leb (tenths v) 900 ≡ b → tenths v ≤ upper (cond a Urban (cond b Rural Motorway))
-    by true e b f = leb-true (tenths v) 600 e
-    by false e true f = leb-true (tenths v) 900 f
-    by false e false f = h

@@ -5,7 +5,6 @@ use Prim.Native.Nat.{ℕ, zero, suc, _+_, _*_, _^_, _≤_, _<_}
 use native.Mathlib.Nat.{mul-le-mul}
 use native.Mathlib.Omega.{arith}
 use Rattle.model.specs.declared.SpeedClass.{SpeedClass}
-use Rattle.model.specs.declared.SpeedClass.the-variants.{Urban, Rural, Motorway}
 use Rattle.model.specs.Rules.{slow, powerFactor, limitSide}
 use Rattle.limits.specs.Table.{lines, row, figure, factor, slope, intercept}
 
@@ -18,43 +17,25 @@ lineSide c line n s = 2592 * (slope c line * s + intercept c line * n)
 
 pub power-factor : (c : SpeedClass) (n s : ℕ) → factor c (lineOf n s) ≡ powerFactor n s
 unfolding lineOf powerFactor figure row lines
-power-factor c n s = by c (slow n s)
+power-factor c n s = by (slow n s)
   where
-    by : (c : SpeedClass) (b : Bool) → factor c (cond b 0 1) ≡ cond b 10000 100000
-    by Urban true = refl
-    by Urban false = refl
-    by Rural true = refl
-    by Rural false = refl
-    by Motorway true = refl
-    by Motorway false = refl
+    by : (b : Bool) → factor c (cond b 0 1) ≡ cond b 10000 100000
+    by true = refl
+    by false = refl
 
 pub limit-side : (c : SpeedClass) (n s : ℕ) → lineSide c (lineOf n s) n s ≡ limitSide n s
 unfolding lineOf limitSide figure row lines
-limit-side c n s = by c (slow n s)
+limit-side c n s = by (slow n s)
   where
-    by : (c : SpeedClass) (b : Bool) → lineSide c (cond b 0 1) n s ≡ cond b (2592 * (136 * s + 144400 * n)) (2592 * (742 * s + 1896600 * n))
-    by Urban true = refl
-    by Urban false = refl
-    by Rural true = refl
-    by Rural false = refl
-    by Motorway true = refl
-    by Motorway false = refl
+    by : (b : Bool) → lineSide c (cond b 0 1) n s ≡ cond b (2592 * (136 * s + 144400 * n)) (2592 * (742 * s + 1896600 * n))
+    by true = refl
+    by false = refl
 
 -- the largest coefficients
 pub most : (c : SpeedClass) (line : ℕ) → line < 2 → (factor c line ≤ 100000) × ((slope c line ≤ 742) × (intercept c line ≤ 1896600))
 unfolding figure row lines
-most c zero h = by c
-  where
-    by : (c : SpeedClass) → (factor c 0 ≤ 100000) × ((slope c 0 ≤ 742) × (intercept c 0 ≤ 1896600))
-    by Urban = (omega arith, (omega arith, omega arith))
-    by Rural = (omega arith, (omega arith, omega arith))
-    by Motorway = (omega arith, (omega arith, omega arith))
-most c (suc zero) h = by c
-  where
-    by : (c : SpeedClass) → (factor c 1 ≤ 100000) × ((slope c 1 ≤ 742) × (intercept c 1 ≤ 1896600))
-    by Urban = (omega arith, (omega arith, omega arith))
-    by Rural = (omega arith, (omega arith, omega arith))
-    by Motorway = (omega arith, (omega arith, omega arith))
+most c zero h = (omega arith, (omega arith, omega arith))
+most c (suc zero) h = (omega arith, (omega arith, omega arith))
 most c (suc (suc line)) h = absurd (omega arith)
 
 pub side-most : {a b n s : ℕ} → a ≤ 742 → b ≤ 1896600 → (n ≤ 7201) × (s ≤ 21603000) → 2592 * (a * s + b * n) < 2 ^ 47

@@ -16,10 +16,14 @@ classIndex Motorway = 2
 unfoldable pub lines : List ℕ
 lines = 10000 ∷ 136 ∷ 144400 ∷ 100000 ∷ 742 ∷ 1896600 ∷ []
 
+-- the upper speed, the least and the most share
+abbrev own : SpeedClass → ℕ × (ℕ × ℕ)
+own Urban = (600, (29, 44))
+own Rural = (900, (23, 43))
+own Motorway = (3000, (23, 43))
+
 unfoldable pub row : SpeedClass → List ℕ
-row Urban = 600 ∷ 29 ∷ 44 ∷ lines
-row Rural = 900 ∷ 23 ∷ 43 ∷ lines
-row Motorway = 3000 ∷ 23 ∷ 43 ∷ lines
+row c = own c .0 ∷ own c .1 .0 ∷ own c .1 .1 ∷ lines
 
 unfoldable pub figure : SpeedClass → ℕ → ℕ
 figure c j = getD (row c) j 0
@@ -41,6 +45,13 @@ slope c line = figure c (4 + 3 * line)
 
 abbrev pub intercept : SpeedClass → ℕ → ℕ
 intercept c line = figure c (5 + 3 * line)
+
+-- no class goes beyond 300 km/h
+pub upper-most : (c : SpeedClass) → upper c ≤ 3000
+unfolding figure row
+upper-most Urban = omega arith
+upper-most Rural = omega arith
+upper-most Motorway = omega arith
 
 -- a share is a percentage
 pub share-most : (c : SpeedClass) → (shareLow c ≤ 100) × (shareHigh c ≤ 100)

@@ -1,7 +1,7 @@
 // The figures of the classes and of the percentile lines: one table, and what is read off it.
 ghost use mathlib.Core.Path.{_≡_};
 ghost use Prim.Native.Nat.{_*_, _^_, _≤_, _<_};
-ghost use Rattle.model.specs.Records.{units};
+ghost use Rattle.model.specs.Records.{tenths, units, travelled};
 ghost use Rattle.model.specs.Rules.{powerFactor, limitSide};
 ghost use Rattle.limits.specs.Table.{figure, classIndex, upper, shareLow, shareHigh, factor, slope, intercept};
 ghost use Rattle.limits.specs.Class.{classOf};
@@ -61,10 +61,17 @@ fn figure(c: SpeedClass, j: usize) -> u64
 }
 
 // The highest speed of a class.
-pub fn upper(c: SpeedClass) -> u64
-    ensures { λ r. ⌜ r ≡ upper c ⌝ }
+pub fn upper(c: SpeedClass) -> Speed
+    ensures { λ r. ⌜ tenths r ≡ upper c ⌝ }
 {
-    figure(c, 0)
+    Speed(figure(c, 0) as u16)
+}
+
+// What one second at a speed covers: the one way from a speed to a distance.
+pub fn travelled(v: Speed) -> Distance
+    ensures { λ r. ⌜ (r ≡ travelled v) × (units r < 2 ^ 16) ⌝ }
+{
+    Distance(v.0 as u64)
 }
 
 // The least and the most share of a class in the distance, in percent.
@@ -105,11 +112,12 @@ pub fn intercept(c: SpeedClass, line: usize) -> u64
 pub fn class_of(v: Speed) -> SpeedClass
     ensures { λ r. ⌜ r ≡ classOf v ⌝ }
 {
-    let tenths = v.0 as u64;
-    if tenths <= upper(SpeedClass::Urban) {
+    let urban = upper(SpeedClass::Urban);
+    if v.0 <= urban.0 {
         return SpeedClass::Urban;
     }
-    if tenths <= upper(SpeedClass::Rural) {
+    let rural = upper(SpeedClass::Rural);
+    if v.0 <= rural.0 {
         return SpeedClass::Rural;
     }
     SpeedClass::Motorway

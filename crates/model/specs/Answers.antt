@@ -6,8 +6,6 @@ use Rattle.model.specs.declared.VerdictAnswer.{VerdictAnswer}
 use Rattle.model.specs.declared.VerdictAnswer.the-variants as verdict
 use Rattle.model.specs.declared.Finding.{Finding}
 use Rattle.model.specs.declared.Finding.the-variants.{Rule, Exceeded, Clean}
-use Rattle.model.specs.declared.Function.{Function}
-use Rattle.model.specs.declared.Function.the-variants.{Count, Sum, Smallest, Largest, Average, Percentile}
 use Rattle.model.specs.Trip.{Answer, number, judged, refused}
 
 -- the answer of a call, and of the verdict call
@@ -19,16 +17,7 @@ abbrev pub verdictAnswerOf : VerdictAnswer → Answer
 verdictAnswerOf (verdict.Judged v) = judged v
 verdictAnswerOf (verdict.Refused k) = refused k
 
--- "The function codes are 0 count, 1 sum, 2 smallest, 3 largest, 4 average, 5 percentile."
-abbrev pub functionCode : Function → ℕ
-functionCode Count = 0
-functionCode Sum = 1
-functionCode Smallest = 2
-functionCode Largest = 3
-functionCode Average = 4
-functionCode Percentile = 5
-
--- the word of a verdict as a number of the C interface: 0 to 31 a rule, 32 exceeded, 33 clean
+-- the finding of a verdict as a number of the C interface: 0 to 31 a rule, 32 exceeded, 33 clean
 abbrev pub findingCode : Finding → ℕ
 findingCode (Rule k) = k
 findingCode Exceeded = 32

@@ -1,14 +1,14 @@
 -- The marked cases of document 01 ("Contracts and proved cases", (a) to (i)): what the definitions give, what document 01 states, and one theorem.
 use mathlib.Core.Bool.{Bool, true, false}
 use mathlib.Core.List.{List, [], _∷_, _++_, map}
-use mathlib.Core.Option.{Option, none, some}
+use mathlib.Core.Option.{Option, some}
 use mathlib.Core.Path.{_≡_, refl}
 use Prim.Native.Nat.{ℕ, _+_, _-_}
-use lib.IntN.{ℤ, pos, negsuc}
+use lib.IntN.{ℤ, pos}
 use lib.ListN.{replicate}
 use Rattle.model.specs.declared.Sample.{Sample}
 use Rattle.model.specs.Numbers.{leVal, leAt, leBytes, signed, within, withinℤ, outside, floorDiv, all, range, sumℤ, filter, count, any, total, minus}
-use Rattle.model.specs.Records.{sampleOf, inRange, channels, channel, functions, windowOf, layoutKept}
+use Rattle.model.specs.Records.{sampleOf, inRange, channels, channel, functions, windowOf, fieldsKept, layoutKept}
 use Rattle.model.specs.Windows.{sampleAt, lookedAt, qualifies, qualifying, valueAt, values, fold, smallest, largest, average, enough, percentile, figure, reading, keepsEntries, entries, displaces, undisplaced, held, moves}
 use Rattle.model.specs.Rules.{inClass, samplesIn, distanceIn, distance, stopped, above100, above145, above160, temperatureFault, altitudeFault, speedAt, speedBefore, acceleration, accelerating, power, acceleratingIn, p95, tooShort, tooLong, shareOutside, tooNear, stopsOutside, urbanMeanOutside, tooFewAbove100, someAbove160, tooManyAbove145, someTemperatureFault, someAltitudeFault, tooFewAccelerating, slow, powerFactor, limitSide, beyondLimit, someBeyond, powerBeyond, rules}
 use Rattle.model.specs.Verdicts.{broken, mask, noxSum, exceedsLimit, exceeded, finding, verdictOf}
@@ -100,7 +100,7 @@ stated = record {
 pub marked-cases : computed ≡ stated
 unfolding
     leVal leAt leBytes signed within withinℤ outside floorDiv all range sumℤ filter count any total
-    sampleOf inRange channels channel functions windowOf layoutKept
+    sampleOf inRange channels channel functions windowOf fieldsKept layoutKept
     sampleAt lookedAt qualifies qualifying valueAt values fold smallest largest average enough percentile figure reading
     keepsEntries entries displaces undisplaced held moves
     inClass samplesIn distanceIn distance stopped above100 above145 above160 temperatureFault altitudeFault

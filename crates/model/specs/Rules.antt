@@ -1,5 +1,5 @@
 -- The rules of a trip (document 01, "The rules"; Regulation (EU) 2017/1151, Annex IIIA). A rule is a test of the samples: true where it is broken.
-use mathlib.Core.Bool.{Bool, true, false, cond, _&&_, _||_, not}
+use mathlib.Core.Bool.{Bool, false, cond, _&&_}
 use mathlib.Core.List.{List, [], _∷_, map}
 use mathlib.Core.Option.{Option, none, some}
 use Prim.Native.Nat.{ℕ, zero, suc, _+_, _*_}
@@ -11,7 +11,7 @@ use Rattle.model.specs.declared.Distance.{Distance}
 use Rattle.model.specs.declared.Sample.{Sample}
 use Rattle.model.specs.declared.SpeedClass.{SpeedClass}
 use Rattle.model.specs.declared.SpeedClass.the-variants.{Urban, Rural, Motorway}
-use Rattle.model.specs.Numbers.{within, outside, range, filter, count, any, total}
+use Rattle.model.specs.Numbers.{outside, range, filter, count, total}
 use Rattle.model.specs.Records.{tenths, units, travelled}
 use Rattle.model.specs.Windows.{sampleAt, percentile}
 

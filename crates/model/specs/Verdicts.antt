@@ -1,5 +1,5 @@
 -- The verdict on a list of samples (document 01, "The rules", last paragraph).
-use mathlib.Core.Bool.{Bool, true, false, cond, _&&_}
+use mathlib.Core.Bool.{Bool, cond, _&&_}
 use mathlib.Core.List.{List, [], _∷_, map}
 use Prim.Native.Nat.{ℕ, suc, _+_, _*_}
 use lib.Dec.{ltb}

@@ -1,8 +1,9 @@
 -- The C struct of an answer tells what the answer tells. Assumes nothing.
 use mathlib.Core.Bool.{Bool, true, false, cond}
 use mathlib.Core.List.{List, [], _∷_}
-use mathlib.Core.Path.{_≡_, refl, sym, subst}
+use mathlib.Core.Path.{_≡_, refl, subst}
 use Prim.Native.Nat.{ℕ, _<_}
+use native.Mathlib.Omega.{arith}
 use lib.Dec.{lit<}
 use Rattle.model.specs.declared.Answer.{Answer}
 use Rattle.model.specs.declared.Answer.the-variants as answer
@@ -56,8 +57,9 @@ written : (w : Written) {r : RdeAnswer} (a : Answer) (before after : List ℕ) �
 written w a before after p e h = record { told = a; is = e; numbered = numbered w a before after p h; promise = h }
   where
     numbered : (w : Written) (a : Answer) (before after : List ℕ) → PositiveIn w → Wrote w a before after → Numbered a
-    numbered (unwritten k) a before after p h = subst Numbered (sym (h .0)) p
-    numbered (wrote bs) a before after p h = subst Numbered (sym (h .0)) tt
+    numbered w (answer.Number z) before after p h = tt
+    numbered (unwritten k) (answer.Refused j) before after p h = subst (λ (m : ℕ). 0 < m) (cc (h .0)) p
+    numbered (wrote bs) (answer.Refused j) before after p h = absurd (let z : _≡_ {A = ℕ} 0 1 = cc (h .0) in omega arith)
 
 pub tally-written : (b : List ℕ) (n : ℕ) (before after : List ℕ) {r : RdeAnswer} (a : Answer) → r ≡ replyOf a → Wrote (tallied b n) a before after
     → Told (Writes (tallied b n) before after) r

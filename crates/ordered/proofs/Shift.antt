@@ -1,7 +1,7 @@
 -- The loops that move cells by one, a turn and the end of each, over the values. Assumes nothing.
 use mathlib.Core.Path.{_≡_, refl, sym, ap, _∙_}
 use mathlib.Core.List.{List, [], _∷_, _++_, append-nil, append-assoc}
-use Prim.Native.Nat.{ℕ, suc, _+_, _-_, _*_, _^_, _≤_, _<_}
+use Prim.Native.Nat.{ℕ, zero, suc, _+_, _-_, _*_, _^_, _≤_, _<_}
 use native.Mathlib.Numerals.{add-one}
 use native.Mathlib.Omega.{arith}
 use lib.IntN.{ℤ, pos}
@@ -10,7 +10,6 @@ use lib.Seq.{set-at, drop-cons}
 use Rattle.model.specs.Numbers.{leAt}
 use Rattle.field.specs.Le.{putLe}
 use Rattle.slide.specs.Lists.{without}
-use Rattle.slide.specs.Carry.{gap-step}
 use Rattle.ordered.specs.Store.{valueOf, valueAt, valuesOf, values-length, values-at, values-more, values-set}
 
 -- the values, and a copy in front of place i of the one at it
@@ -23,6 +22,17 @@ written s i k zs = rw (add-one, values-more s i, append-assoc) (set-at (valuesOf
 
 drop-one : (s : List ℕ) (m i : ℕ) → i < m → drop i (valuesOf s m) ≡ valueAt s i ∷ drop (i + 1) (valuesOf s m)
 drop-one s m i h = rw (drop-cons (valuesOf s m) i (pos 0) (rw values-length h), values-at s m i (pos 0) h, add-one) refl
+
+-- one turn of closing the gap at i
+gap-step : (d : ℤ) (s : List ℤ) (i : ℕ) → i + 1 < length s → without (i + 1) (set s i (getD s (i + 1) d)) ≡ without i s
+unfolding without
+gap-step d s i h = rw (add-one i) (by s i (omega arith))
+  where
+    by : (s : List ℤ) (i : ℕ) → suc i < length s → without (suc i) (set s i (getD s (suc i) d)) ≡ without i s
+    by [] i h = refl
+    by (x ∷ []) zero h = absurd (omega arith)
+    by (x ∷ y ∷ ys) zero h = refl
+    by (x ∷ xs) (suc i) h = ap (λ (l : List ℤ). x ∷ l) (by xs i (omega arith))
 
 number : (s : List ℕ) (i k : ℕ) → k ≡ leAt 4 s (4 * i) → valueOf k ≡ valueAt s i
 unfolding valueAt

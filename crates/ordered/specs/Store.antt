@@ -2,23 +2,21 @@
 --     Storable                      the values that a cell can hold
 --     valueAt, valuesOf             the value in a cell; the values in the first m cells
 --     values-at, values-take        the value in a cell is that of the list; the first k of the first m
---     values-set, values-put        a cell is written; a write past the cells
---     values-same, values-part      they depend on the cells' bytes alone; the store is a part of an area
+--     values-set                    a cell is written
 -- Assumes nothing.
-use mathlib.Core.Path.{_≡_, refl, sym, ap, _∙_}
+use mathlib.Core.Path.{_≡_, refl, ap, _∙_}
 use mathlib.Core.List.{List, [], _∷_, _++_}
 use Prim.Native.Nat.{ℕ, zero, suc, _+_, _-_, _*_, _^_, _≤_, _<_}
-use native.Mathlib.Nat.{mul-suc, zero-add}
 use native.Mathlib.Decide.{decLt}
 use native.Mathlib.Omega.{arith}
 use borrow.Author.Tests.{lt-ltb, le-ltb}
 use lib.IntN.{ℤ, pos, negsuc, natAbs, _+ℤ_, _-ℤ_}
-use lib.ListN.{length, getD, set, take, drop}
+use lib.ListN.{length, getD, set, take}
 use lib.Seq.{take-all, take-append-le}
 use Rattle.model.specs.Numbers.{leVal, leAt, leBytes}
-use Rattle.field.specs.Part.{part, put}
-use Rattle.field.specs.Le.{putLe, bytes-length, val-bytes, le-part}
-use Rattle.field.specs.Cells.{cells, cells-length, cells-at, cells-set, cells-other}
+use Rattle.field.specs.Part.{part}
+use Rattle.field.specs.Le.{putLe, bytes-length, val-bytes}
+use Rattle.field.specs.Cells.{cells, cells-length, cells-at, cells-set}
 
 -- the values that a cell can hold
 abbrev pub Storable : ℤ → Type 0
@@ -34,11 +32,6 @@ valueAt s i = valueOf (leAt 4 s (4 * i))
 
 unfoldable pub valuesOf : List ℕ → ℕ → List ℤ
 valuesOf s m = cells 4 (λ b. valueOf (leVal b)) s m
-
--- every signed number of 16 bits; of a number from zero on, `Storable` computes to a bound
-pub storable-small : (z : ℤ) → natAbs z ≤ 32768 → Storable z
-storable-small (pos n) h = omega arith
-storable-small (negsuc n) h = omega arith
 
 pub value-storable : (k : ℕ) → k < 2 ^ 32 → Storable (valueOf k)
 unfolding valueOf
@@ -86,25 +79,3 @@ pub values-set : (s : List ℕ) (m i k : ℕ) → i < m → 4 * m ≤ length s �
 unfolding valuesOf putLe
 values-set s m i k h l b =
     cells-set 4 (λ b. valueOf (leVal b)) s m i (leBytes 4 k) h l (bytes-length 4 k) ∙ ap (λ (n : ℕ). set (valuesOf s m) i (valueOf n)) (val-bytes 4 k b)
-
-pub values-put : (s : List ℕ) (m a : ℕ) (ys : List ℕ) → 4 * m ≤ a → valuesOf (put s a ys) m ≡ valuesOf s m
-unfolding valuesOf
-values-put s m a ys h = cells-other 4 _ s m a ys h
-
--- the bytes of the cells alone count
-pub values-front : (s : List ℕ) (n m : ℕ) → 4 * m ≤ n → valuesOf (take n s) m ≡ valuesOf s m
-values-front s n zero h = unfold valuesOf cells in refl
-values-front s n (suc m) h =
-    let r : 4 * m + 4 ≤ n = rw mul-suc at h in
-    rw (values-more (take n s) m, values-more s m, values-front s n m (omega arith), value r) refl
-  where
-    value : 4 * m + 4 ≤ n → valueAt (take n s) m ≡ valueAt s m
-    value r = unfold valueAt part in ap valueOf (rw zero-add at (le-part s 0 n 4 (4 * m) r))
-
-pub values-same : (s t : List ℕ) (m : ℕ) → take (4 * m) s ≡ take (4 * m) t → valuesOf s m ≡ valuesOf t m
-values-same s t m e = sym (values-front s (4 * m) m (omega arith)) ∙ ap (λ (l : List ℕ). valuesOf l m) e ∙ values-front t (4 * m) m (omega arith)
-
--- a store that is a part of an area
-pub values-part : (xs : List ℕ) (a n m : ℕ) → 4 * m ≤ n → valuesOf (part xs a n) m ≡ valuesOf (drop a xs) m
-unfolding part
-values-part xs a n m h = values-front (drop a xs) n m h

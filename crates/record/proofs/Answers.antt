@@ -10,13 +10,13 @@ use Rattle.model.specs.declared.Function.{Function}
 use Rattle.model.specs.declared.Function.the-variants.{Count}
 use Rattle.model.specs.declared.Sample.{Sample}
 use Rattle.model.specs.declared.Window.{Window}
-use Rattle.model.specs.Numbers.{leAt, all}
-use Rattle.model.specs.Records.{recordLength, sampleOf, inRange, functions, windowOf, layoutKept}
+use Rattle.model.specs.Numbers.{leAt}
+use Rattle.model.specs.Records.{recordLength, sampleOf, inRange, functions, windowOf, fieldsKept, layoutKept}
 use Rattle.record.specs.declared.SampleRead.the-variants as sample
 use Rattle.record.specs.declared.WindowRead.the-variants as window
 use Rattle.record.specs.declared.FunctionRead.{FunctionRead}
 use Rattle.record.specs.declared.FunctionRead.the-variants as function
-use Rattle.record.specs.Read.{sampleRead, windowRead, functionRead, fieldsKept}
+use Rattle.record.specs.Read.{sampleRead, windowRead, functionRead}
 
 pub sample-length : (r : List ℕ) → (length r ≡ recordLength → ⊥) → sample.Refused 1 ≡ sampleRead r
 unfolding sampleRead
@@ -57,13 +57,13 @@ window-length r h = rw (ne-eqb (length r) recordLength h)
 
 module _ (r : List ℕ) (l : length r ≡ recordLength) where
   pub window-code : {k : ℕ} → (k ≡ 6) × (leb (leAt 1 r 0) 5 ≡ false) → window.Refused k ≡ windowRead r
-  unfolding windowRead layoutKept all
+  unfolding windowRead layoutKept
   window-code e = rw (e .0, eq-eqb (length r) recordLength l, e .1)
 
   pub window-fields : leb (leAt 1 r 0) 5 ≡ true → fieldsKept r ≡ false → window.Refused 6 ≡ windowRead r
-  unfolding windowRead layoutKept fieldsKept all
+  unfolding windowRead layoutKept
   window-fields t e = rw (eq-eqb (length r) recordLength l, t, e)
 
   pub window-whole : (w : Window) → w ≡ windowOf r → leb (leAt 1 r 0) 5 ≡ true → fieldsKept r ≡ true → window.Window w ≡ windowRead r
-  unfolding windowRead layoutKept fieldsKept all
+  unfolding windowRead layoutKept
   window-whole w p t e = rw (eq-eqb (length r) recordLength l, t, e) (ap window.Window p)

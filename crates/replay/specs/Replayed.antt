@@ -2,16 +2,17 @@
 use mathlib.Core.Bool.{true}
 use mathlib.Core.List.{List, _∷_}
 use mathlib.Core.Path.{_≡_, sym, ap, _∙_}
-use Prim.Native.Nat.{ℕ, _*_, _/_}
+use Prim.Native.Nat.{ℕ, _*_, _/_, _≤_}
+use native.Mathlib.Omega.{arith}
 use lib.Dec.{leb}
-use lib.ListN.{length, take, drop}
+use lib.ListN.{length, take, drop, length-take}
 use lib.Seq.{take-all}
 use borrow.Author.Tests.{leb-true}
 use Rattle.calls.specs.Area.{areaLen, Stands}
-use Rattle.calls.specs.Step.{Step, Run, call, aside}
+use Rattle.calls.specs.Step.{Step, Run}
 use Rattle.calls.specs.Trace.{Claim, runs, every-list, fresh-runs}
 use Rattle.field.specs.Part.{put}
-use Rattle.model.specs.Trip.{Trip, empty, Call, clear, Answer, outcome, left, answers, after}
+use Rattle.model.specs.Trip.{Trip, empty, Call, clear, Answer, answers, after}
 use Rattle.replay.specs.declared.Progress.{Progress}
 use Rattle.replay.specs.Script.{calls}
 use Rattle.replay.specs.Answers.{answerLength, encode, encodes}
@@ -41,6 +42,10 @@ pub record Replayed (script s o : List ℕ) (r : Progress) (s′ o′ : List ℕ
   pub past : drop (r .written) o′ ≡ drop (r .written) o
 
 module _ {script s o : List ℕ} {r : Progress} {s′ o′ : List ℕ} (p : Replayed script s o r s′ o′) where
+  -- The answers lie within the output.
+  pub replayed-within : r .written ≤ length o
+  replayed-within = omega (arith, p .written, p .made, length-take (length o / answerLength) (calls script))
+
   -- Where the script ended, every call of it was made.
   pub replayed-whole : r .ended ≡ true → fitting script (length o) ≡ calls script
   replayed-whole e = take-all (length o / answerLength) (calls script) (leb-true _ _ (sym (p .ended) ∙ e))

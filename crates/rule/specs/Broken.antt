@@ -13,12 +13,11 @@ use lib.Seq.{drop-drop}
 use lib.Signed.{ltZ}
 use Rattle.model.specs.declared.ClassTally.{ClassTally}
 use Rattle.model.specs.declared.Distance.{Distance}
-use Rattle.model.specs.declared.Finding.{Finding}
 use Rattle.model.specs.declared.Finding.the-variants.{Rule, Exceeded, Clean}
 use Rattle.model.specs.declared.SpeedClass.{SpeedClass}
 use Rattle.model.specs.declared.SpeedClass.the-variants.{Urban, Rural, Motorway}
 use Rattle.model.specs.declared.Tally.{Tally}
-use Rattle.model.specs.Numbers.{bit, outside}
+use Rattle.model.specs.Numbers.{outside}
 use Rattle.model.specs.Records.{units}
 use Rattle.model.specs.Verdicts.{mask, exceedsLimit, finding}
 use Rattle.limits.specs.Table.{shareLow, shareHigh}

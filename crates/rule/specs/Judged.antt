@@ -19,7 +19,7 @@ use Rattle.model.specs.declared.SpeedClass.{SpeedClass}
 use Rattle.model.specs.declared.SpeedClass.the-variants.{Urban, Rural, Motorway}
 use Rattle.model.specs.declared.Tally.{Tally}
 use Rattle.model.specs.declared.Verdict.{Verdict}
-use Rattle.model.specs.Numbers.{leVal, leAt, all, bit, range, filter, count}
+use Rattle.model.specs.Numbers.{leVal, leAt, bit, range, filter, count}
 use Rattle.model.specs.Records.{units, sampleOf}
 use Rattle.model.specs.Windows.{sampleAt, percentile}
 use Rattle.model.specs.Rules.{speed, inClass, accelerating, power, acceleratingIn, samplesIn, distanceIn, distance, tooShort, tooLong, shareOutside, tooNear, stopsOutside, urbanMeanOutside, tooFewAbove100, someAbove160, tooManyAbove145, someTemperatureFault, someAltitudeFault, tooFewAccelerating, p95, powerFactor, limitSide, beyondLimit, someBeyond, powerBeyond, rules}
@@ -28,6 +28,7 @@ use Rattle.model.specs.Verdicts.{broken, mask, exceeded, exceedsLimit, finding,
 use Rattle.limits.specs.Class.{in-class}
 use Rattle.limits.specs.Table.{row, figure}
 use Rattle.slide.specs.Order.{leZ-trans, ltZ-leZ, ltZ-true}
+use Rattle.tally.specs.Sound.{Sound, sound-facts}
 use Rattle.slide.specs.Percentile.{Upward, passes, percentile-passes}
 use Rattle.rule.specs.declared.ClassCounts.{ClassCounts}
 use Rattle.rule.specs.declared.Counts.{Counts}
@@ -71,7 +72,7 @@ module _ (ss : List Sample) where
   unfolding power
   power-is i = rw (speed-at ss i, acceleration-is ss i)
 
-  -- "lively" samples of a class, and those of them whose power is not beyond the line
+  -- accelerating samples of a class, and those of them whose power is not beyond the line
   pub counts : (c : SpeedClass) (l : PowerLimit) → countsIn c l (map speed ss) (length ss) .accelerating ≡ length (acceleratingIn c ss)
   unfolding countsIn acceleratingIn
   counts c l = sym (length-filter _ _ (accelerates c) (range 0 (length ss)))
@@ -173,31 +174,21 @@ module _ (ss : List Sample) (t : Tally) (n : ℕ) (vs : List ℕ) (k : Counts) (
       rw (← first, ← over, ← bits)
 
 -- what a sound tally of NOx from 0 on keeps within bounds
-abbrev Each : List Bool → Type 0
-Each [] = Unit {0}
-Each (b ∷ bs) = (b ≡ true) × Each bs
-
-each : (bs : List Bool) → all bs ≡ true → Each bs
-unfolding all
-each [] h = tt
-each (true ∷ bs) h = (refl, each bs h)
-each (false ∷ bs) h = absurd (false≢true h)
-
 small-nox : (z : ℤ) (m : ℕ) → leZ (pos 0) z ≡ true → leZ z (pos m) ≡ true → natAbs z ≤ m
 small-nox (pos u) m h k = leb-true u m k
 small-nox (negsuc u) m h k = absurd (false≢true h)
 
 pub tally-bounded : (t : Tally) → sound t ≡ true → leZ (pos 0) (t .nox) ≡ true → BoundedTally t
-unfolding sound samplesOf
+unfolding samplesOf
 tally-bounded t h z =
-    let w = each _ h in
-    let n : samplesOf t ≤ 7201 = leb-true _ _ (w .0) in
-    let u : units (t .urban .distance) ≤ 600 * t .urban .samples = leb-true _ _ (w .1 .0) in
-    let r : units (t .rural .distance) ≤ 900 * t .rural .samples = leb-true _ _ (w .1 .1 .0) in
-    let m : units (t .motorway .distance) ≤ 3000 * t .motorway .samples = leb-true _ _ (w .1 .1 .1 .0) in
-    let stops : t .stops ≤ samplesOf t = leb-true _ _ (w .1 .1 .1 .1 .0) in
-    let over145 : t .over145 ≤ samplesOf t = leb-true _ _ (w .1 .1 .1 .1 .1 .1 .0) in
-    let nox : natAbs (t .nox) ≤ 100000000 * samplesOf t = small-nox (t .nox) (100000000 * samplesOf t) z (w .1 .1 .1 .1 .1 .1 .1 .1 .1 .1 .0) in
+    let f : Sound t = sound-facts t h in
+    let n : samplesOf t ≤ 7201 = f .samples in
+    let u : units (t .urban .distance) ≤ 600 * t .urban .samples = f .urban in
+    let r : units (t .rural .distance) ≤ 900 * t .rural .samples = f .rural in
+    let m : units (t .motorway .distance) ≤ 3000 * t .motorway .samples = f .motorway in
+    let stops : t .stops ≤ samplesOf t = f .stops in
+    let over145 : t .over145 ≤ samplesOf t = f .over145 in
+    let nox : natAbs (t .nox) ≤ 100000000 * samplesOf t = small-nox (t .nox) (100000000 * samplesOf t) z (f .nox) in
     record {
       urban = record { samples = omega arith; distance = omega arith };
       rural = record { samples = omega arith; distance = omega arith };

@@ -1,22 +1,21 @@
 -- The stored speeds, a u16 for each second, and the accelerations that they give.
---     stored-none, stored-more     what the part stores, as samples are accepted
 --     acceleration-is              the accelerations are the model's
 -- Assumes nothing.
-use mathlib.Core.Path.{_≡_, refl, sym, ap, ap₂, _∙_}
+use mathlib.Core.Path.{_≡_, refl, ap₂}
 use mathlib.Core.List.{List, [], _∷_, _++_, map}
 use Prim.Native.Nat.{ℕ, zero, suc, _+_, _-_, _*_, _≤_, _<_}
 use native.Mathlib.Decide.{decLt}
 use native.Mathlib.Omega.{arith}
 use borrow.Author.Tests.{lt-ltb, le-ltb}
-use lib.IntN.{ℤ, pos, natAbs, subℕ, _-ℤ_, _*ℤ_}
-use lib.ListN.{length, getD, length-map}
+use lib.IntN.{pos, natAbs, subℕ, _-ℤ_, _*ℤ_}
+use lib.ListN.{length, getD}
 use Rattle.model.specs.declared.Sample.{Sample}
 use Rattle.model.specs.declared.Speed.{Speed}
 use Rattle.model.specs.Numbers.{leVal}
 use Rattle.model.specs.Records.{tenths}
 use Rattle.model.specs.Rules.{speed, speedAt, speedBefore, acceleration}
 use Rattle.field.specs.Le.{putLe}
-use Rattle.field.specs.Cells.{cells, cells-length}
+use Rattle.field.specs.Cells.{cells}
 use Rattle.rule.specs.declared.Acceleration.{Acceleration}
 use Rattle.rule.specs.declared.Power.{Power}
 
@@ -82,19 +81,3 @@ speed-before ss (suc i) = speed-at ss i
 pub acceleration-is : (ss : List Sample) (i : ℕ) → acceleration ss i ≡ accelerationIn (map speed ss) i .0
 unfolding acceleration
 acceleration-is ss i = ap₂ (λ (a b : ℕ). pos a -ℤ pos b) (speed-at ss (suc i)) (speed-before ss i)
-
--- what the part stores: nothing of no samples, and one sample more after its speed was added
-pub stored-none : (part : List ℕ) → Stored part 0 []
-unfolding cells
-stored-none part = refl
-
-pub stored-more : (n : ℕ) (before after : List ℕ) (ss : List Sample) (s : Sample) → Stored before n ss → Appended n (s .speed) before after → Stored after (n + 1) (ss ++ (s ∷ []))
-stored-more n before after ss s e a = more ss ∙ ap (λ (vs : List ℕ). vs ++ (speed s ∷ [])) e ∙ sym (a .speeds)
-  where
-    more : (ss : List Sample) → map speed (ss ++ (s ∷ [])) ≡ map speed ss ++ (speed s ∷ [])
-    more [] = refl
-    more (x ∷ ss) = ap (λ (vs : List ℕ). speed x ∷ vs) (more ss)
-
--- as many samples as speeds
-pub stored-length : (part : List ℕ) (n : ℕ) (ss : List Sample) → Stored part n ss → length ss ≡ n
-stored-length part n ss e = sym (length-map ss speed) ∙ ap length e ∙ cells-length 2 leVal part n

@@ -1,8 +1,8 @@
 -- The held entries of a window as one more sample comes, as code keeps them, and the reading by them.
 --     stepped                    what code does to the list as one sample more comes
 --     held-stepped               so the list stays what is held
---     aged-length, aged-within   after the first has gone there is room for one more, and all are in view
---     held-within, held-rising, held-length, held-values      the entries are in view, rise strictly, at most the width, at most the values
+--     aged-length                after the first has gone there is room for one more
+--     held-within, held-rising, held-length      the entries are in view, rise strictly, at most the width
 --     reading-held, reading-first, reading-unheld      the reading is the first one's value; none where nothing is held
 -- Assumes nothing.
 use mathlib.Core.Path.{_≡_, refl, sym, ap, _∙_}
@@ -12,7 +12,7 @@ use mathlib.Core.Option.{none, some}
 use Prim.Native.Nat.{ℕ, suc, _+_, _-_, _≤_, _<_}
 use native.Mathlib.Omega.{arith}
 use lib.IntN.{ℤ}
-use lib.ListN.{length, getD, length-map}
+use lib.ListN.{length, getD}
 use Rattle.model.specs.declared.Sample.{Sample}
 use Rattle.model.specs.declared.Window.{Window}
 use Rattle.model.specs.declared.Function.{Function}
@@ -82,10 +82,6 @@ module _ (w : Window) (ss : List Sample) where
   pub held-qualifying : length (held w ss) ≤ length (qualifying w ss)
   held-qualifying = held-cases (λ l. length l ≤ length (qualifying w ss)) (length-undisplaced (displacedBy w ss) (qualifying w ss)) (omega arith)
 
-  pub held-values : length (held w ss) ≤ length (values w ss)
-  unfolding values
-  held-values = rw length-map held-qualifying
-
   pub held-length : length (held w ss) ≤ w .width
   held-length = omega (arith, held-qualifying, qualifying-length w ss)
 
@@ -147,9 +143,6 @@ module _ (w : Window) (ss : List Sample) (keeps : keepsEntries (w .function) ≡
             (pops-same d (displacedBy w (more ss s) (length ss)) _ agree ∙ ap (pops (displacedBy w (more ss s) (length ss))) kept)
             ∙ sym (undisplaced-pops (displacedBy w (more ss s)) (by-value-law (displaces (w .function)) (displaces-order (w .function) keeps) (valueAt w (more ss s))) (staying w ss) (length ss))
         by false = rw append-nil kept
-
-    pub aged-within : All (λ x. (length ss < x + w .width) × (x < length ss)) (aged (w .width) (length ss) (held w ss))
-    aged-within = rw held-aged (all-undisplaced (displacedBy w ss) _ (staying w ss) (staying-within w ss))
 
     -- there is room for one more
     pub aged-length : length (aged (w .width) (length ss) (held w ss)) < w .width

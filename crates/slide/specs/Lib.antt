@@ -3,7 +3,6 @@ pub mod Lists
 pub mod Sums
 pub mod Order
 pub mod Ordered
-pub mod Carry
 pub mod Percentile
 pub mod Step
 pub mod Undisplaced

@@ -4,7 +4,7 @@
 --     without k        a list without what stands at k
 --     Rising           numbers that rise strictly
 --     midway           a sum over a list of which the first k have changed
---     count-append, count-map, count-filter, count-all, filter-count      counting along a list, and through `map` and `filter`
+--     count-filter     counting through `filter`
 -- Assumes nothing.
 use mathlib.Core.Path.{_≡_, refl, ap, _∙_}
 use mathlib.Core.Logic.{_⊎_, inl, inr}
@@ -59,13 +59,6 @@ module _ {A : Type 0} where
   in-at d [] k h = absurd (omega arith)
   in-at d (x ∷ l) zero h = inl refl
   in-at d (x ∷ l) (suc k) h = inr (in-at d l k (omega arith))
-
-  -- a search that fails
-  pub in-found : (d v : A) (l : List A) → In v l → ((k : ℕ) → k < length l → getD l k d ≡ v → ⊥) → ⊥
-  unfolding In
-  in-found d v [] i none = i
-  in-found d v (x ∷ l) (inl e) none = none 0 (omega arith) e
-  in-found d v (x ∷ l) (inr i) none = in-found d v l i (λ k h e. none (suc k) (omega arith) e)
 
   pub in-filter : (p : A → Bool) (v : A) (l : List A) → In v l → p v ≡ true → In v (filter p l)
   unfolding In filter
@@ -137,25 +130,6 @@ module _ {A : Type 0} where
       by true r = omega arith
       by false r = omega arith
 
-  pub count-append : (p : A → Bool) (l m : List A) → count p (l ++ m) ≡ count p l + count p m
-  unfolding count
-  count-append p [] m = omega arith
-  count-append p (x ∷ l) m = omega (arith, count-append p l m)
-
-  pub count-all : (l : List A) → count (λ (x : A). true) l ≡ length l
-  unfolding count
-  count-all [] = refl
-  count-all (x ∷ l) = omega (arith, count-all l)
-
-  pub filter-count : (p : A → Bool) (l : List A) → length (filter p l) ≡ count p l
-  unfolding filter count
-  filter-count p [] = refl
-  filter-count p (x ∷ l) = by (p x) (filter-count p l)
-    where
-      by : (b : Bool) → length (filter p l) ≡ count p l → length (cond b (x ∷ filter p l) (filter p l)) ≡ bit b + count p l
-      by true r = omega arith
-      by false r = omega arith
-
   pub count-filter : (p q : A → Bool) (l : List A) → count p (filter q l) ≡ count (λ x. q x && p x) l
   unfolding filter count
   count-filter p q [] = refl
@@ -164,11 +138,6 @@ module _ {A : Type 0} where
       by : (b : Bool) → count p (filter q l) ≡ count (λ x. q x && p x) l → count p (cond b (x ∷ filter q l) (filter q l)) ≡ bit (b && p x) + count (λ x. q x && p x) l
       by true r = omega arith
       by false r = omega arith
-
-  pub count-map : {B : Type 0} (p : B → Bool) (f : A → B) (l : List A) → count p (map f l) ≡ count (λ x. p (f x)) l
-  unfolding count
-  count-map p f [] = refl
-  count-map p f (x ∷ l) = omega (arith, count-map p f l)
 
   -- tests that agree on the list
   pub count-same : (p q : A → Bool) (l : List A) → All (λ x. p x ≡ q x) l → count p l ≡ count q l
@@ -249,11 +218,6 @@ pub total-zero : {A : Type 0} (f : A → ℕ) → ((x : A) → f x ≡ 0) → (l
 unfolding total
 total-zero f h [] = refl
 total-zero f h (x ∷ l) = omega (arith, h x, total-zero f h l)
-
-pub total-step : {A : Type 0} (f g e : A → ℕ) → ((x : A) → g x ≡ f x + e x) → (l : List A) → total g l ≡ total f l + total e l
-unfolding total
-total-step f g e h [] = refl
-total-step f g e h (x ∷ l) = omega (arith, h x, total-step f g e h l)
 
 pub total-le : {A : Type 0} (f g : A → ℕ) → ((x : A) → f x ≤ g x) → (l : List A) → total f l ≤ total g l
 unfolding total

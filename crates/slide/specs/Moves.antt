@@ -3,7 +3,6 @@
 --     Counted                so many moves were made on the way to these samples
 --     counted-first, counted-next, counted-last      one window after another: the first k have seen the new sample
 --     kept-moves, unkept-moves                       one window's moves
---     counted-step           all windows at once
 --     counted-moves          so the count is the model's, exactly
 --     moves-bound            and at most twice the windows times the samples
 -- Assumes nothing.
@@ -18,7 +17,7 @@ use Rattle.model.specs.declared.Sample.{Sample}
 use Rattle.model.specs.declared.Window.{Window}
 use Rattle.model.specs.Numbers.{bit, range, filter, total}
 use Rattle.model.specs.Windows.{qualifies, qualifying, lookedAt, keepsEntries, entries, held, moves}
-use Rattle.slide.specs.Lists.{all-map, length-one, filter-append, filter-one, filter-same, length-filter, length-range, range-snoc, range-append, range-within, total-zero, total-step, total-le, total-bound, midway, midway-start, midway-end, midway-step}
+use Rattle.slide.specs.Lists.{all-map, length-one, filter-append, filter-one, filter-same, length-filter, length-range, range-snoc, range-append, range-within, total-zero, total-le, total-bound, midway, midway-start, midway-end, midway-step}
 use Rattle.slide.specs.Step.{more, length-more, enters, qualifies-before}
 use Rattle.slide.specs.Held.{held-qualifying, held-unkept, held-start}
 
@@ -121,12 +120,6 @@ module _ (ws : List Window) (ss : List Sample) (s : Sample) where
 
   pub counted-last : (m : ℕ) → CountedTo m (length ws) ws ss s → Counted m ws (more ss s)
   counted-last m e = omega (arith, midway-end (heldIn (more ss s)) (heldIn ss) ws, midway-end (entriesIn (more ss s)) (entriesIn ss) ws)
-
-  -- all windows at once
-  pub counted-step : (m m′ : ℕ) → Counted m ws ss
-      → m′ + total (heldIn (more ss s)) ws ≡ m + total (heldIn ss) ws + 2 * total (λ w. newEntry w ss s) ws
-      → Counted m′ ws (more ss s)
-  counted-step m m′ e f = omega (arith, total-step (entriesIn ss) (entriesIn (more ss s)) (λ w. newEntry w ss s) (λ w. entries-step w ss s) ws)
 
 -- before the first sample
 pub counted-start : (ws : List Window) → Counted 0 ws []

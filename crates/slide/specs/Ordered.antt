@@ -3,7 +3,6 @@
 --     ordered-snoc, ordered-uncons        how the store changes as a value enters and the first one leaves
 --     sorted-ordered, count-ordered, length-ordered, in-ordered      it is in order and has the same values
 --     insert-at, remove-at                the same by place
---     insert-carry                        the same by carrying the larger value on
 -- Assumes nothing.
 use mathlib.Core.Path.{_≡_, refl, sym, ap, _∙_}
 use mathlib.Core.List.{List, [], _∷_, _++_}
@@ -232,12 +231,3 @@ remove-at d v (x ∷ xs) (suc k) w h e =
     by : (b : Bool) → leZ v x ≡ b → leZ x v ≡ true → k < length xs → removeOne v xs ≡ without k xs → cond b xs (x ∷ removeOne v xs) ≡ x ∷ without k xs
     by true f g l r = shift d x xs k (w .1) l (e ∙ leZ-anti v x f g) (w .0)
     by false f g l r = join x _ _ r
-
--- as code does that carries the larger value on
-pub insert-carry : (v x : ℤ) (xs : List ℤ) → Sorted (x ∷ xs) → insert v (x ∷ xs) ≡ cond (ltZ v x) v x ∷ insert (cond (ltZ v x) x v) xs
-unfolding insert Sorted
-insert-carry v x xs w = by (ltZ v x)
-  where
-    by : (b : Bool) → cond b (v ∷ x ∷ xs) (x ∷ insert v xs) ≡ cond b v x ∷ insert (cond b x v) xs
-    by true = join v _ _ (sym (insert-least x xs (w .0)))
-    by false = refl

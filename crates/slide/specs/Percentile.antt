@@ -1,10 +1,7 @@
 -- The 95th percentile without its definition: by counting, and by its rank in the ordered values.
 --     percentile-passes    the percentile passes an upward closed test exactly when too few values fail it; false where there is no value
---     percentile-above     the percentile is above t: too few values are at most t
---     above-percentile     the same backwards
---     percentile-upto      both as one equation of tests
 --     percentile-rank      it stands at `rank` in the ordered values
---     percentile-empty, percentile-none, percentile-some      there is none exactly where there is no value
+--     percentile-empty, percentile-some      there is none exactly where there is no value
 -- Assumes nothing.
 use mathlib.Core.Path.{_≡_, refl, sym, ap, _∙_}
 use mathlib.Core.List.{List, [], _∷_}
@@ -12,15 +9,15 @@ use mathlib.Core.Option.{Option, none, some}
 use mathlib.Core.Bool.{Bool, true, false, not, true≢false, false≢true}
 use Prim.Native.Nat.{ℕ, zero, suc, _+_, _-_, _*_, _/_, _≤_, _<_}
 use native.Mathlib.Omega.{arith}
-use borrow.Author.Tests.{leb-false, le-leb, lt-leb, not-true}
+use borrow.Author.Tests.{le-leb, lt-leb, not-true}
 use lib.Dec.{leb, ltb}
 use lib.IntN.{ℤ}
 use lib.ListN.{length, getD}
-use lib.Signed.{leZ, ltZ}
+use lib.Signed.{leZ}
 use Rattle.model.specs.Numbers.{bit, filter, count}
 use Rattle.model.specs.Windows.{smallest, enough, percentile}
 use Rattle.slide.specs.Lists.{All, all-at, in-at, in-filter, all-filter}
-use Rattle.slide.specs.Order.{ltb-leb, leZ-trans, leZ-refl, ltZ-leZ, ltZ-true, upwards, smallest-best, best-is}
+use Rattle.slide.specs.Order.{ltb-leb, leZ-trans, leZ-refl, upwards, smallest-best, best-is}
 use Rattle.slide.specs.Ordered.{Least, Sorted, ordered, sorted-ordered, count-ordered, length-ordered, in-ordered}
 
 -- where the percentile of m values stands in their order
@@ -102,28 +99,12 @@ pub percentile-some : (zs : List ℤ) (v : ℤ) → percentile zs ≡ some v →
 percentile-some [] v e = let z : _≡_ {A = ℕ} 0 1 = cc percentile-empty in omega arith
 percentile-some (z ∷ zs) v e = omega arith
 
-pub percentile-none : (zs : List ℤ) → percentile zs ≡ none → zs ≡ []
-percentile-none [] e = refl
-percentile-none (z ∷ zs) e = let n : _≡_ {A = ℕ} 0 1 = cc (percentile-rank (z ∷ zs) (omega arith) z) in absurd (omega arith)
-
 module _ (zs : List ℤ) (v : ℤ) (is : percentile zs ≡ some v) where
   pub percentile-test : (p : ℤ → Bool) → Downward p → p v ≡ leb (95 * length zs) (100 * count p zs)
   percentile-test p down =
       let h : 0 < length zs = percentile-some zs v is in
       let e : v ≡ getD (ordered zs) (rank (length zs)) v = cc (percentile-rank zs h v) in
       ap p e ∙ rank-test zs h v p down
-
-  pub percentile-upto : (t : ℤ) → leZ v t ≡ enough zs t
-  unfolding enough
-  percentile-upto t = percentile-test (λ z. leZ z t) (upto-downward t)
-
-  pub percentile-above : (t : ℤ) → ltZ t v ≡ true → 100 * count (λ z. leZ z t) zs < 95 * length zs
-  unfolding enough
-  percentile-above t e = leb-false (95 * length zs) (100 * count (λ z. leZ z t) zs) (sym (percentile-upto t) ∙ ltZ-true t v e)
-
-  pub above-percentile : (t : ℤ) → 100 * count (λ z. leZ z t) zs < 95 * length zs → ltZ t v ≡ true
-  unfolding enough
-  above-percentile t h = ltZ-leZ t v ∙ ap not (percentile-upto t ∙ lt-leb (95 * length zs) (100 * count (λ z. leZ z t) zs) h)
 
 -- a test of what may be missing
 abbrev pub passes : (ℤ → Bool) → Option ℤ → Bool

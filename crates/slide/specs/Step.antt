@@ -1,10 +1,10 @@
 -- One sample more: what a window looks at, its qualifying values, and what code keeps of them.
 --     sample-before, qualifies-before, value-before     the samples so far are as they were
---     sample-new, enters-is, value-new                  the new one
+--     sample-new, value-new                             the new one
 --     leaves, enters                                    the second that goes out of view qualified; the new sample qualifies
 --     staying, stayingValues                            the qualifying seconds that stay in view, and their values
 --     qualifying-before, qualifying-after               so the seconds before and after; values-before, values-after: the values
---     count-step, sum-step, ordered-staying, ordered-after      count, sum and the ordered values, rolled on
+--     count-step, sum-step                              count and sum, rolled on
 --     length-values, all-values, sum-bound              bounds
 --     qualifying-start, values-start                    before the first sample
 -- Assumes nothing.
@@ -18,16 +18,15 @@ use native.Mathlib.Omega.{arith}
 use borrow.Author.Tests.{leb-true, leb-false, le-leb, lt-leb}
 use lib.Dec.{leb}
 use lib.IntN.{ℤ, pos, natAbs, _+ℤ_, _-ℤ_, +ℤ-idr}
-use lib.ListN.{length, drop, length-append, length-map, List·getD-append}
+use lib.ListN.{length, length-append, length-map, List·getD-append}
 use lib.Seq.{getD-append-seam}
 use Rattle.model.specs.declared.Sample.{Sample}
 use Rattle.model.specs.declared.Window.{Window}
-use Rattle.model.specs.Numbers.{bit, range, filter, sumℤ, withinℤ}
+use Rattle.model.specs.Numbers.{bit, range, filter, sumℤ}
 use Rattle.model.specs.Records.{channel, sampleOf}
 use Rattle.model.specs.Windows.{sampleAt, lookedAt, qualifies, qualifying, valueAt, values}
 use Rattle.slide.specs.Lists.{All, all-map, all-filtered, all-mapped, all-at, one, length-one, filter-append, filter-one, filter-cons, filter-same, length-filter, map-same, map-one, range-snoc, range-within, length-range, Rising, rising-range, rising-filter}
 use Rattle.slide.specs.Sums.{sum-snoc, sum-tail, sum-within}
-use Rattle.slide.specs.Ordered.{insert, removeOne, ordered, ordered-snoc, ordered-uncons}
 
 -- the samples with one more
 abbrev pub more : List Sample → Sample → List Sample
@@ -121,10 +120,6 @@ module _ (w : Window) (ss : List Sample) where
     unfolding valueAt
     value-new = rw (sample-new ss s) refl
 
-    pub enters-is : enters w ss s ≡ withinℤ (w .low) (w .high) (channel (w .condition) s)
-    unfolding enters qualifies
-    enters-is = rw (sample-new ss s) refl
-
   pub staying-within : All (λ x. (suc (length ss) ≤ x + w .width) × (x < length ss)) (staying w ss)
   unfolding staying
   staying-within = all-filtered _ (qualifies w ss) _ (all-map (λ x h. (omega arith, omega arith)) _ (range-within first left))
@@ -188,34 +183,12 @@ module _ (w : Window) (ss : List Sample) where
         (map-same (valueAt w (more ss s)) (valueAt w ss) (staying w ss) (all-map (λ x h. value-before s x (h .1)) (staying w ss) staying-within))
         (map-one (valueAt w (more ss s)) (enters w ss s) n ∙ ap (one (enters w ss s)) (value-new s))
 
-    -- what stays is all but the first where the first leaves
-    pub staying-is : stayingValues w ss ≡ drop (bit (leaves w ss)) (values w ss)
-    staying-is = rw values-before (by (leaves w ss))
-      where
-        by : (b : Bool) → stayingValues w ss ≡ drop (bit b) (one b (leaving w ss) ++ stayingValues w ss)
-        by true = refl
-        by false = refl
-
-    pub values-leaving : leaves w ss ≡ true → values w ss ≡ leaving w ss ∷ stayingValues w ss
-    values-leaving e = values-before ∙ ap (λ (b : Bool). one b (leaving w ss) ++ stayingValues w ss) e
-
-    pub values-staying : leaves w ss ≡ false → values w ss ≡ stayingValues w ss
-    values-staying e = values-before ∙ ap (λ (b : Bool). one b (leaving w ss) ++ stayingValues w ss) e
-
-    pub values-step : (s : Sample) → values w (more ss s) ≡ drop (bit (leaves w ss)) (values w ss) ++ one (enters w ss s) (channel (w .channel) s)
-    values-step s = values-after s ∙ ap (λ (l : List ℤ). l ++ one (enters w ss s) (channel (w .channel) s)) staying-is
-
     -- there is room for one more
     pub staying-room : length (staying w ss) < w .width
     unfolding staying
     staying-room = omega (arith, length-filter (qualifies w ss) (range first left), length-range first left)
 
-    pub staying-length : length (stayingValues w ss) < w .width
-    unfolding stayingValues
-    staying-length = rw length-map staying-room
-
     -- rolled on: what leaves is taken away, what enters is added
-
     pub count-before : length (values w ss) ≡ bit (leaves w ss) + length (stayingValues w ss)
     count-before = rw values-before (length-append (one (leaves w ss) (leaving w ss)) (stayingValues w ss) ∙ ap (λ (k : ℕ). k + length (stayingValues w ss)) (length-one (leaves w ss) (leaving w ss)))
 
@@ -242,21 +215,6 @@ module _ (w : Window) (ss : List Sample) where
     pub sum-step : (s : Sample)
         → sumℤ (values w (more ss s)) ≡ (sumℤ (values w ss) -ℤ addend (leaves w ss) (leaving w ss)) +ℤ addend (enters w ss s) (channel (w .channel) s)
     sum-step s = sum-after s ∙ ap (λ (z : ℤ). z +ℤ addend (enters w ss s) (channel (w .channel) s)) sum-staying
-
-    pub ordered-staying : ordered (stayingValues w ss) ≡ cond (leaves w ss) (removeOne (leaving w ss) (ordered (values w ss))) (ordered (values w ss))
-    ordered-staying = rw values-before (by (leaves w ss))
-      where
-        by : (b : Bool) → ordered (stayingValues w ss) ≡ cond b (removeOne (leaving w ss) (ordered (one b (leaving w ss) ++ stayingValues w ss))) (ordered (one b (leaving w ss) ++ stayingValues w ss))
-        by true = sym (ordered-uncons (leaving w ss) (stayingValues w ss))
-        by false = refl
-
-    pub ordered-after : (s : Sample)
-        → ordered (values w (more ss s)) ≡ cond (enters w ss s) (insert (channel (w .channel) s) (ordered (stayingValues w ss))) (ordered (stayingValues w ss))
-    ordered-after s = rw (values-after s) (by (enters w ss s))
-      where
-        by : (b : Bool) → ordered (stayingValues w ss ++ one b (channel (w .channel) s)) ≡ cond b (insert (channel (w .channel) s) (ordered (stayingValues w ss))) (ordered (stayingValues w ss))
-        by true = ordered-snoc (stayingValues w ss) (channel (w .channel) s)
-        by false = rw append-nil refl
 
 -- before the first sample
 pub qualifying-start : (w : Window) → qualifying w [] ≡ []

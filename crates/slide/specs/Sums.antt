@@ -1,11 +1,11 @@
 -- The sum of a list of integers, and the average by it.
 --     sum-snoc, sum-tail            one more value, one less
 --     sum-within                    a bound on the sum from a bound on each value
---     average-is, average-empty     the average by sum and count
+--     average-is                    the average by sum and count
 -- Assumes nothing.
 use mathlib.Core.Path.{_≡_, refl, sym, ap, _∙_}
 use mathlib.Core.List.{List, [], _∷_, _++_}
-use mathlib.Core.Option.{none, some}
+use mathlib.Core.Option.{some}
 use mathlib.Core.Bool.{Bool, true, false, cond}
 use Prim.Native.Nat.{ℕ, suc, _+_, _-_, _*_, _≤_, _<_}
 use native.Mathlib.Nat.{suc-mul}
@@ -51,7 +51,3 @@ pub average-is : (zs : List ℤ) → 0 < length zs → average zs ≡ some (floo
 unfolding average
 average-is [] h = absurd (omega arith)
 average-is (z ∷ zs) h = refl
-
-pub average-empty : average [] ≡ none
-unfolding average
-average-empty = refl

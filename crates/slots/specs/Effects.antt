@@ -5,23 +5,25 @@
 --     Recounted              the move count written
 --     Stored                 a record stored in the ring
 --     Totalled, Declared     slot k's count and sum written; slot k started
---     value-same, qualifies-same    what a window reads where its record and the second's are the same; beside-.., around-.., stored-.. follow
+--     Emptied, Cleared       slot k's list emptied; the lists of the first k slots
+--     value-same             what a window reads where its record and the second's are the same; around-value follows
 -- Assumes nothing.
 use mathlib.Core.Path.{_≡_, refl, sym, ap, ap₂, _∙_}
 use mathlib.Core.List.{List}
 use Prim.Native.Nat.{ℕ, _+_, _*_, _%_, _^_, _≤_, _<_}
 use native.Mathlib.Nat.{zero-add, add-zero}
+use native.Mathlib.Decide.{ℕ-discrete}
 use native.Mathlib.Omega.{arith}
 use lib.IntN.{ℤ, pos}
 use lib.ListN.{length}
 use mir.Syntax.{w64}
 use mir.Val.{SFits}
-use Rattle.model.specs.Numbers.{leVal, leAt, leBytes, signed, withinℤ}
-use Rattle.model.specs.Records.{recordLength, sampleOf, channel, windowOf}
+use Rattle.model.specs.Numbers.{leVal, leAt, leBytes}
+use Rattle.model.specs.Records.{recordLength, sampleOf, channel}
 use Rattle.field.specs.Part.{part, put, Apart, put-length, part-same, part-other, part-in}
 use Rattle.field.specs.Le.{putLe, bytes-length, le-same, le-other, le-put, le-part, part-le, put-le-length}
 use Rattle.field.specs.Twos.{unsigned, i64-same}
-use Rattle.slots.specs.Layout.{partLen, ringSeconds, ringLen, ringOf, recordPlace, recordOf, record-ring, movesPlace, movesOf, slotsPlace, slotLen, slotOf, slot-length, countPlace, sumPlace, firstPlace, numberPlace, storePlace, storeLen, countIn, sumIn, firstIn, numberIn, storeIn, recordIn, windowIn, valueIn, value-window, qualifiesIn, qualifies-window}
+use Rattle.slots.specs.Layout.{partLen, ringSeconds, ringLen, ringOf, recordPlace, recordOf, record-ring, movesPlace, movesOf, slotsPlace, slotLen, slotOf, slot-length, countPlace, sumPlace, firstPlace, numberPlace, countIn, sumIn, firstIn, numberIn, recordIn, valueIn}
 
 -- what lies outside the n bytes from a is as before
 abbrev pub Around : ℕ → ℕ → List ℕ → List ℕ → Type 0
@@ -34,9 +36,6 @@ module _ (a n : ℕ) (s t : List ℕ) (r : Around a n s t) where
 
   pub record-around : recordLength ≤ a → recordIn t ≡ recordIn s
   record-around h = r 0 recordLength (λ x y. omega arith)
-
-  pub window-around : recordLength ≤ a → windowIn t ≡ windowIn s
-  window-around h = ap windowOf (record-around h)
 
 -- q is p but for slot k and the move count
 pub record Beside (k : ℕ) (p q : List ℕ) : Type 0 where
@@ -66,25 +65,10 @@ module _ (p q : List ℕ) (k s : ℕ) (here : recordIn (slotOf q k) ≡ recordIn
   unfolding valueIn
   value-same = ap₂ (λ (c : ℕ) (r : List ℕ). channel c (sampleOf r)) (field 1 1 (omega arith)) there
 
-  pub qualifies-same : qualifiesIn q k s ≡ qualifiesIn p k s
-  unfolding qualifiesIn
-  qualifies-same = rw (field 1 2 (omega arith), field 4 8 (omega arith), field 4 12 (omega arith), there) refl
-
--- the windows of the other slots read what they read before
-module _ (k : ℕ) (p q : List ℕ) (b : Beside k p q) (j : ℕ) (z : j ≡ k → ⊥) (s : ℕ) where
-  pub beside-value : valueIn q j s ≡ valueIn p j s
-  beside-value = value-same p q j s (ap recordIn (b .other j z)) (record-same p q s (b .ring))
-
-  pub beside-qualifies : qualifiesIn q j s ≡ qualifiesIn p j s
-  beside-qualifies = qualifies-same p q j s (ap recordIn (b .other j z)) (record-same p q s (b .ring))
-
 -- so does slot k's, where its window record is not written
 module _ (k : ℕ) (p q : List ℕ) (b : Beside k p q) (a n : ℕ) (r : Around a n (slotOf p k) (slotOf q k)) (h : recordLength ≤ a) (s : ℕ) where
   pub around-value : valueIn q k s ≡ valueIn p k s
   around-value = value-same p q k s (record-around a n (slotOf p k) (slotOf q k) r h) (record-same p q s (b .ring))
-
-  pub around-qualifies : qualifiesIn q k s ≡ qualifiesIn p k s
-  around-qualifies = qualifies-same p q k s (record-around a n (slotOf p k) (slotOf q k) r h) (record-same p q s (b .ring))
 
 -- the bytes ys are now at o within slot k
 pub record Written (k o : ℕ) (ys p q : List ℕ) : Type 0 where
@@ -146,21 +130,6 @@ stored s r p q size len e = record {
   size = rw e (put-length p (recordPlace s) r);
 }
 
--- what a window reads of the record that was stored, and of the others
-module _ (s : ℕ) (r p q : List ℕ) (t : Stored s r p q) (k : ℕ) where
-  pub stored-value : valueIn q k s ≡ channel (windowIn (slotOf p k) .channel) (sampleOf r)
-  stored-value = value-window q k s ∙ rw (t .here, t .slots k) refl
-
-  pub stored-qualifies : qualifiesIn q k s
-      ≡ withinℤ (windowIn (slotOf p k) .low) (windowIn (slotOf p k) .high) (channel (windowIn (slotOf p k) .condition) (sampleOf r))
-  stored-qualifies = qualifies-window q k s ∙ rw (t .here, t .slots k) refl
-
-  pub stored-value-other : (i : ℕ) → (i % ringSeconds ≡ s % ringSeconds → ⊥) → valueIn q k i ≡ valueIn p k i
-  stored-value-other i z = value-same p q k i (ap recordIn (t .slots k)) (t .other i z)
-
-  pub stored-qualifies-other : (i : ℕ) → (i % ringSeconds ≡ s % ringSeconds → ⊥) → qualifiesIn q k i ≡ qualifiesIn p k i
-  stored-qualifies-other i z = qualifies-same p q k i (ap recordIn (t .slots k)) (t .other i z)
-
 -- slot k's count and sum are now these, and nothing else is written
 pub record Totalled (k n : ℕ) (z : ℤ) (p q : List ℕ) : Type 0 where
   pub count : countIn (slotOf q k) ≡ n
@@ -183,36 +152,71 @@ totalled k n z p p₁ q size slot below fits a b = record {
     here : length (slotOf p k) ≡ slotLen
     here = slot-length p k size slot
 
--- slot k starts with window record r: nothing counted, no entries; only its store is as before
+-- slot k starts with window record r: nothing counted; its list and its store are as before
 pub record Declared (k : ℕ) (r p q : List ℕ) : Type 0 where
   pub «record» : recordIn (slotOf q k) ≡ r
   pub count : countIn (slotOf q k) ≡ 0
   pub sum : sumIn (slotOf q k) ≡ pos 0
-  pub first : firstIn (slotOf q k) ≡ 0
-  pub number : numberIn (slotOf q k) ≡ 0
-  pub store : storeIn (slotOf q k) ≡ storeIn (slotOf p k)
+  pub around : Around 0 firstPlace (slotOf p k) (slotOf q k)
   pub beside : Beside k p q
   pub moves : movesOf q ≡ movesOf p
 
-pub declared : (k : ℕ) (r p p₁ p₂ p₃ q : List ℕ) → length p ≡ partLen → k < 16 → length r ≡ recordLength
-    → p₁ ≡ put p (slotsPlace + slotLen * k) r → Totalled k 0 (pos 0) p₁ p₂ → Written k firstPlace (leBytes 2 0) p₂ p₃ → Written k numberPlace (leBytes 2 0) p₃ q → Declared k r p q
-unfolding putLe
-declared k r p p₁ p₂ p₃ q size slot len e t f n = record {
-  «record» = start 0 16 (λ x y. omega arith) ∙ t .around 0 16 (λ x y. omega arith) ∙ rw (a .here) (rw len at (part-same (slotOf p k) 0 r (omega (arith, slot-length p k size slot))));
-  count = le-around firstPlace 4 (slotOf p₂ k) (slotOf q k) start 4 countPlace (λ x y. omega arith) ∙ t .count;
-  sum = ap (signed 8) (le-around firstPlace 4 (slotOf p₂ k) (slotOf q k) start 8 sumPlace (λ x y. omega arith)) ∙ t .sum;
-  first = rw (n .here, f .here) (le-other 2 _ numberPlace 0 2 firstPlace (λ x y. omega arith) ∙ le-same 2 (slotOf p₂ k) firstPlace 0 (omega (arith, slot-length p₂ k s₂ slot)) (omega arith));
-  number = rw (n .here) (le-same 2 (slotOf p₃ k) numberPlace 0 (omega (arith, slot-length p₃ k (f .beside .size ∙ s₂) slot)) (omega arith));
-  store = start storePlace storeLen (λ x y. omega arith) ∙ t .around storePlace storeLen (λ x y. omega arith) ∙ written-around k 0 r p p₁ a storePlace storeLen (λ x y. omega arith);
-  beside = beside-then k p p₁ q (a .beside) (beside-then k p₁ p₂ q (t .beside) (beside-then k p₂ p₃ q (f .beside) (n .beside)));
-  moves = n .moves ∙ f .moves ∙ t .moves ∙ a .moves;
+pub declared : (k : ℕ) (r p p₁ q : List ℕ) → length p ≡ partLen → k < 16 → length r ≡ recordLength
+    → p₁ ≡ put p (slotsPlace + slotLen * k) r → Totalled k 0 (pos 0) p₁ q → Declared k r p q
+declared k r p p₁ q size slot len e t = record {
+  «record» = t .around 0 16 (λ x y. omega arith) ∙ rw (a .here) (rw len at (part-same (slotOf p k) 0 r (omega (arith, slot-length p k size slot))));
+  count = t .count;
+  sum = t .sum;
+  around = λ b m h. t .around b m (λ x y. h (omega arith) (omega arith)) ∙ written-around k 0 r p p₁ a b m (λ x y. h (omega arith) (omega arith));
+  beside = beside-then k p p₁ q (a .beside) (t .beside);
+  moves = t .moves ∙ a .moves;
 }
   where
     a : Written k 0 r p p₁
     a = written k 0 r p p₁ (omega arith) (rw add-zero e)
 
-    s₂ : length p₂ ≡ partLen
-    s₂ = t .beside .size ∙ a .beside .size ∙ size
+-- slot k's list is empty, and nothing else is written
+pub record Emptied (k : ℕ) (p q : List ℕ) : Type 0 where
+  pub first : firstIn (slotOf q k) ≡ 0
+  pub number : numberIn (slotOf q k) ≡ 0
+  pub around : Around firstPlace 4 (slotOf p k) (slotOf q k)
+  pub beside : Beside k p q
+  pub moves : movesOf q ≡ movesOf p
 
-    start : Around firstPlace 4 (slotOf p₂ k) (slotOf q k)
-    start b m h = rw (n .here, f .here) (part-le 2 _ numberPlace 0 b m (λ x y. h (omega arith) (omega arith)) ∙ part-le 2 (slotOf p₂ k) firstPlace 0 b m (λ x y. h (omega arith) (omega arith)))
+pub emptied : (k : ℕ) (p p₁ q : List ℕ) → length p ≡ partLen → k < 16 → Written k firstPlace (leBytes 2 0) p p₁ → Written k numberPlace (leBytes 2 0) p₁ q → Emptied k p q
+unfolding putLe
+emptied k p p₁ q size slot f n = record {
+  first = rw (n .here, f .here) (le-other 2 _ numberPlace 0 2 firstPlace (λ x y. omega arith) ∙ le-same 2 (slotOf p k) firstPlace 0 (omega (arith, slot-length p k size slot)) (omega arith));
+  number = rw (n .here) (le-same 2 (slotOf p₁ k) numberPlace 0 (omega (arith, slot-length p₁ k (f .beside .size ∙ size) slot)) (omega arith));
+  around = λ b m h. rw (n .here, f .here) (part-le 2 _ numberPlace 0 b m (λ x y. h (omega arith) (omega arith)) ∙ part-le 2 (slotOf p k) firstPlace 0 b m (λ x y. h (omega arith) (omega arith)));
+  beside = beside-then k p p₁ q (f .beside) (n .beside);
+  moves = n .moves ∙ f .moves;
+}
+
+-- the lists of the first k slots are empty, and nothing else is written
+pub record Cleared (k : ℕ) (p q : List ℕ) : Type 0 where
+  pub empty : (j : ℕ) → j < k → (firstIn (slotOf q j) ≡ 0) × (numberIn (slotOf q j) ≡ 0)
+  pub around : (j : ℕ) → Around firstPlace 4 (slotOf p j) (slotOf q j)
+  pub ring : ringOf q ≡ ringOf p
+  pub moves : movesOf q ≡ movesOf p
+  pub size : length q ≡ length p
+
+pub cleared-start : (p : List ℕ) → Cleared 0 p p
+cleared-start p = record { empty = λ j h. absurd (omega arith); around = λ j b m h. refl; ring = refl; moves = refl; size = refl }
+
+pub cleared-next : (k : ℕ) (p₀ p q : List ℕ) → Cleared k p₀ p → Emptied k p q → Cleared (k + 1) p₀ q
+cleared-next k p₀ p q c e = record {
+  empty = λ j h. empty j h (ℕ-discrete j k);
+  around = λ j. around j (ℕ-discrete j k);
+  ring = e .beside .ring ∙ c .ring;
+  moves = e .moves ∙ c .moves;
+  size = e .beside .size ∙ c .size;
+}
+  where
+    empty : (j : ℕ) → j < k + 1 → Dec (j ≡ k) → (firstIn (slotOf q j) ≡ 0) × (numberIn (slotOf q j) ≡ 0)
+    empty j h (yes f) = rw f (e .first, e .number)
+    empty j h (no f) = rw (e .beside .other j f) (c .empty j (omega arith))
+
+    around : (j : ℕ) → Dec (j ≡ k) → Around firstPlace 4 (slotOf p₀ j) (slotOf q j)
+    around j (yes f) = rw f (λ b m h. e .around b m h ∙ c .around k b m h)
+    around j (no f) = rw (e .beside .other j f) (c .around j)

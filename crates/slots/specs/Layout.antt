@@ -141,10 +141,6 @@ extreme largest = cond largest Largest Smallest
 unfoldable pub displacesIn : Bool → ℤ → List ℕ → ℕ → ℕ → Bool
 displacesIn largest new p k s = displaces (extreme largest) new (valueIn p k s)
 
-pub displaces-value : (largest : Bool) (new : ℤ) (p : List ℕ) (k s : ℕ) → displacesIn largest new p k s ≡ displaces (extreme largest) new (valueIn p k s)
-unfolding displacesIn
-displaces-value largest new p k s = refl
-
 pub slot-length : (p : List ℕ) (k : ℕ) → length p ≡ partLen → k < 16 → length (slotOf p k) ≡ slotLen
 slot-length p k e h = part-length p (slotsPlace + slotLen * k) slotLen (omega arith)
 

@@ -9,14 +9,13 @@ use mathlib.Core.List.{List, [], _∷_, _++_}
 use mathlib.Core.Bool.{Bool, true, false, cond}
 use Prim.Native.Nat.{ℕ, _+_, _-_, _*_, _%_, _≤_, _<_}
 use native.Mathlib.Omega.{arith}
-use lib.IntN.{ℤ}
 use lib.ListN.{length, getD, take, drop, length-append, length-take, length-drop}
 use lib.Seq.{take-at}
 use Rattle.model.specs.Numbers.{leAt, leBytes}
 use Rattle.field.specs.Part.{Apart}
 use Rattle.field.specs.Le.{putLe, le-same, le-other, part-le, put-le-length}
-use Rattle.slots.specs.Layout.{partLen, slotLen, slotOf, slot-length, countPlace, firstPlace, numberPlace, storePlace, listLen, listCapacity, firstIn, numberIn, firstOf, numberOf, movesOf}
-use Rattle.slots.specs.Effects.{Around, Beside, beside-then, Written, Recounted, recounted-beside, le-around, Totalled, Declared}
+use Rattle.slots.specs.Layout.{partLen, slotLen, slotOf, slot-length, firstPlace, numberPlace, storePlace, listLen, listCapacity, firstIn, numberIn, firstOf, numberOf, movesOf}
+use Rattle.slots.specs.Effects.{Around, Beside, beside-then, Written, Recounted, recounted-beside, le-around}
 use Rattle.slots.specs.Circular.{circ, circ-length, circ-same, circ-push, circ-back, circ-front, circ-at}
 
 -- the second at place i of a slot's store
@@ -51,13 +50,6 @@ list-around a n s t r h = rw (same 0 (omega arith), same 2 (omega arith)) (circ-
 
     cell : (i : ℕ) → i < listCapacity → cellIn t i ≡ cellIn s i
     cell i l = le-around a n s t r 2 (storePlace + 2 * i) (λ x y. h (omega arith) (omega arith))
-
--- the list of a slot that starts is empty; new counts and sums leave a list
-pub declared-list : (k : ℕ) (r p q : List ℕ) → Declared k r p q → listOf q k ≡ []
-declared-list k r p q d = list-none (slotOf q k) (d .number)
-
-pub totalled-list : (k n : ℕ) (z : ℤ) (p q : List ℕ) → Totalled k n z p q → listOf q k ≡ listOf p k
-totalled-list k n z p q t = list-around countPlace 12 (slotOf p k) (slotOf q k) (t .around) (λ x y. omega arith)
 
 -- what a caller shows before slot k's list is touched
 pub record Ready (p : List ℕ) (k : ℕ) : Type 0 where

@@ -2,7 +2,7 @@
 --     Fit, Became                before and after any number of moves
 --     unmoved, then, as-list     they compose
 --     became-..                  what of the slot is not the list is as before
---     fit-after, fit-beside, fit-declared    a list that is fit after a write
+--     fit-after                  a list that is fit after a write
 --     Fitness                    what the test of any bytes tells
 -- Assumes nothing.
 use mathlib.Core.Path.{_≡_, refl, sym, ap, ap₂, _∙_}
@@ -12,12 +12,12 @@ use Prim.Native.Nat.{ℕ, suc, _+_, _-_, _*_, _^_, _≤_, _<_}
 use native.Mathlib.Omega.{arith}
 use lib.IntN.{ℤ}
 use lib.ListN.{length, getD, length-append}
-use Rattle.model.specs.Numbers.{bit, signed}
+use Rattle.model.specs.Numbers.{bit}
 use Rattle.model.specs.Windows.{displaces}
 use Rattle.slide.specs.Undisplaced.{pops, pops-none, pops-turn, pops-end, aged, aged-goes, aged-stays}
 use Rattle.slide.specs.Held.{stepped}
-use Rattle.slots.specs.Layout.{partLen, slotOf, countPlace, sumPlace, firstPlace, listLen, listCapacity, firstOf, numberOf, movesOf, windowIn, countIn, sumIn, valueIn, qualifiesIn, extreme, displacesIn}
-use Rattle.slots.specs.Effects.{Around, le-around, window-around, Beside, beside-same, beside-then, around-value, around-qualifies, Declared}
+use Rattle.slots.specs.Layout.{slotOf, firstPlace, listLen, listCapacity, firstOf, numberOf, movesOf, valueIn, extreme, displacesIn}
+use Rattle.slots.specs.Effects.{Around, Beside, beside-same, beside-then, around-value}
 use Rattle.slots.specs.Lists.{Ready, Moved, listOf, number-length, shorter, shorter-length}
 
 -- what a caller shows of the bytes
@@ -61,20 +61,8 @@ as-list k p q l l′ e h b = rw h at b
 
 -- what is not the list is as before: the window, the count and the sum, and what the window reads
 module _ (k : ℕ) (p q l : List ℕ) (e : ℕ) (b : Became k p q l e) where
-  pub became-window : windowIn (slotOf q k) ≡ windowIn (slotOf p k)
-  became-window = window-around firstPlace listLen (slotOf p k) (slotOf q k) (b .around) (omega arith)
-
-  pub became-count : countIn (slotOf q k) ≡ countIn (slotOf p k)
-  became-count = le-around firstPlace listLen (slotOf p k) (slotOf q k) (b .around) 4 countPlace (λ x y. omega arith)
-
-  pub became-sum : sumIn (slotOf q k) ≡ sumIn (slotOf p k)
-  became-sum = ap (signed 8) (le-around firstPlace listLen (slotOf p k) (slotOf q k) (b .around) 8 sumPlace (λ x y. omega arith))
-
   pub became-value : (s : ℕ) → valueIn q k s ≡ valueIn p k s
   became-value = around-value k p q (b .beside) firstPlace listLen (b .around) (omega arith)
-
-  pub became-qualifies : (s : ℕ) → qualifiesIn q k s ≡ qualifiesIn p k s
-  became-qualifies = around-qualifies k p q (b .beside) firstPlace listLen (b .around) (omega arith)
 
   became-displaces : (largest : Bool) (new : ℤ) → displacesIn largest new q k ≡ displacesIn largest new p k
   unfolding displacesIn
@@ -128,23 +116,6 @@ pops-length d (x ∷ l) = go (pops d l) (d x) refl refl (pops-length d l)
     go [] true e f h = rw (e, f) (omega arith)
     go [] false e f h = rw (e, f) (omega arith)
     go (z ∷ m) b e f h = rw e (omega (arith, ap length e))
-
--- another slot's list, and a list that starts
-pub fit-beside : (k j : ℕ) (p q : List ℕ) → (j ≡ k → ⊥) → Beside k p q → Fit p j → movesOf q + numberOf p j + 2 < 2 ^ 64 → Fit q j
-fit-beside k j p q z b f h =
-    let e : slotOf q j ≡ slotOf p j = b .other j z in
-    record {
-      ready = record { size = b .size ∙ f .ready .size; slot = f .ready .slot; first = rw e (f .ready .first) };
-      number = rw e (f .number);
-      room = rw e h;
-    }
-
-pub fit-declared : (k : ℕ) (r p q : List ℕ) → Declared k r p q → length p ≡ partLen → k < 16 → movesOf p + 2 < 2 ^ 64 → Fit q k
-fit-declared k r p q d size slot h = record {
-  ready = record { size = d .beside .size ∙ size; slot = slot; first = rw (d .first) (omega arith) };
-  number = rw (d .number) (omega arith);
-  room = rw (d .number, d .moves) (omega arith);
-}
 
 -- the loop that pops, after some turns: n entries are left
 pub record Popping (largest : Bool) (new : ℤ) (k : ℕ) (p₀ p : List ℕ) (n : ℕ) : Type 0 where

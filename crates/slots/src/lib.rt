@@ -10,7 +10,7 @@ ghost use Rattle.field.specs.Part.{put};
 ghost use Rattle.slide.specs.Undisplaced.{pops, aged};
 ghost use Rattle.slide.specs.Held.{stepped};
 ghost use Rattle.slots.specs.Layout.{partLen, slotLen, listCapacity, slotOf, movesOf, codeIn, widthIn, countIn, sumIn, firstIn, numberIn, numberOf, valueIn, qualifiesIn, displacesIn};
-ghost use Rattle.slots.specs.Effects.{Written, Recounted, Stored, Totalled, Declared};
+ghost use Rattle.slots.specs.Effects.{Written, Recounted, Stored, Totalled, Declared, Emptied, Cleared};
 ghost use Rattle.slots.specs.Lists.{listOf, Ready, Moved, shorter, nextFirst};
 ghost use Rattle.slots.specs.Steps.{Fit, Fitness, Became};
 
@@ -19,9 +19,9 @@ const RING_SECONDS: u16 = 610;
 
 const MOVES: usize = 9760;
 
-const SLOTS: usize = 9768;
+pub const SLOTS: usize = 9768;
 
-const SLOT_LEN: usize = 2432;
+pub const SLOT_LEN: usize = 2432;
 
 // A slot: the window record's fields, then those behind it.
 const CODE: usize = 0;
@@ -44,7 +44,9 @@ const FIRST: usize = 28;
 
 const NUMBER: usize = 30;
 
-const STORE: usize = 32;
+pub const STORE: usize = 32;
+
+pub const STORE_LEN: usize = 2400;
 
 const LIST_CAPACITY: u16 = 600;
 
@@ -172,15 +174,34 @@ pub fn put_count_sum(part: &mut [u8], k: usize, count: u32, sum: i64)
     field::put_i64(part, SLOTS + SLOT_LEN * k + SUM, sum);
 }
 
-// Slot k starts with a window record: nothing counted, no entries.
+// Slot k starts with a window record: nothing counted. Its list, which clear has emptied, is not written.
 pub fn declare_slot(part: &mut [u8], k: usize, bytes: &[u8])
     requires { ⌜ (length (now part) ≡ partLen) × (k < 16) × (length (now bytes) ≡ recordLength) ⌝ }
     ensures { λ _. ⌜ Declared k (now (bytes .entry)) (now (part .entry)) (now (part .exit)) ⌝ }
 {
     copy_record(part, SLOTS + SLOT_LEN * k, bytes);
     put_count_sum(part, k, 0, 0);
+}
+
+// Slot k's list becomes empty.
+fn clear_list(part: &mut [u8], k: usize)
+    requires { ⌜ (length (now part) ≡ partLen) × (k < 16) ⌝ }
+    ensures { λ _. ⌜ Emptied k (now (part .entry)) (now (part .exit)) ⌝ }
+{
     slot_put(part, k, FIRST, 2, 0);
     slot_put(part, k, NUMBER, 2, 0);
+}
+
+// Every list becomes empty: only clear does this.
+pub fn clear_lists(part: &mut [u8])
+    requires { ⌜ length (now part) ≡ partLen ⌝ }
+    ensures { λ _. ⌜ Cleared 16 (now (part .entry)) (now (part .exit)) ⌝ }
+{
+    let mut k: usize = 0;
+    while k < 16 {
+        clear_list(part, k);
+        k += 1;
+    }
 }
 
 // The count of moves starts at 0: only clear does this.
@@ -200,7 +221,7 @@ fn count_move(part: &mut [u8])
     field::put_u64(part, MOVES, n + 1);
 }
 
-// Appends one entry at the back of slot k's list: one of the two functions that write the lists.
+// Appends one entry at the back of slot k's list: clear apart, one of the two functions that write the lists.
 fn append(part: &mut [u8], k: usize, second: u16)
     requires { ⌜ Ready (now part) k ⌝ }
     requires { ⌜ (numberOf (now part) k < listCapacity) × (movesOf (now part) + 1 < 2 ^ 64) ⌝ }

@@ -15,7 +15,7 @@ use lib.IntN.{ℤ, pos, negsuc, natAbs, _+ℤ_, _-ℤ_}
 use Rattle.model.specs.Numbers.{bit, withinℤ, minus}
 use Rattle.ordered.specs.Kept.{Inserted, Removed, kept-enters, kept-leaves}
 use Rattle.ordered.specs.Store.{Storable, valuesOf}
-use Rattle.record.specs.Ranges.{both}
+use Rattle.field.specs.Tests.{both}
 use Rattle.slide.specs.Lists.{one}
 use Rattle.slide.specs.Ordered.{ordered}
 use Rattle.slide.specs.Step.{addend}

@@ -16,12 +16,12 @@ use lib.ListN.{length, getD}
 use Rattle.field.specs.Le.{le-part}
 use Rattle.model.specs.Numbers.{bit, leAt, floorDiv}
 use Rattle.model.specs.Records.{functions, layoutKept}
-use Rattle.model.specs.Windows.{valueAt, values, held, keepsEntries, reading}
+use Rattle.model.specs.Windows.{valueAt, held, keepsEntries, reading}
 use Rattle.model.specs.declared.Function.the-variants.{Count}
 use Rattle.model.specs.declared.Sample.{Sample}
 use Rattle.model.specs.declared.Window.{Window}
 use Rattle.ordered.specs.Store.{valuesOf}
-use Rattle.record.specs.Ranges.{Each, all-each}
+use Rattle.field.specs.Tests.{both}
 use Rattle.slide.specs.Held.{held-within, reading-first, reading-unheld}
 use Rattle.slide.specs.Lists.{all-at}
 use Rattle.slide.specs.Moves.{counted-moves, moves-bound}
@@ -114,11 +114,11 @@ module _ (k : ℕ) (p : List ℕ) where
   -- a code above 5 is no window's
   pub reads-other : (r : Reading) (m : ℕ) → m ≡ codeIn (slotOf p k) → (m ≡ 0 → ⊥) → (m ≡ 1 → ⊥) → (m ≡ 2 → ⊥) → (m ≡ 3 → ⊥) → (m ≡ 4 → ⊥) → (m ≡ 5 → ⊥)
       → Reads k p r
-  unfolding layoutKept Each
+  unfolding layoutKept
   reads-other r m e h₀ h₁ h₂ h₃ h₄ h₅ =
       let l : 5 < m = above-5 m (above-2 m h₀ h₁ h₂) h₃ h₄ h₅ in
       reads k p r
-      (λ w ss s. absurd (omega (arith, leb-true (leAt 1 (recordIn (slotOf p k)) 0) 5 (all-each _ (s .layout) .0), le-part (slotOf p k) 0 16 1 0 (omega arith))))
+      (λ w ss s. absurd (omega (arith, leb-true (leAt 1 (recordIn (slotOf p k)) 0) 5 (both _ _ (s .layout) .0), le-part (slotOf p k) 0 16 1 0 (omega arith))))
 
   pub reads-unfit : (r : Reading) → length p ≡ partLen → k < 16 → (t : Bool) → Fitness p k t → t ≡ false → Reads k p r
   reads-unfit r size slot t f e = record {

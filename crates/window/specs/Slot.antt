@@ -12,17 +12,19 @@ use Prim.Native.Nat.{ℕ, zero, suc, _+_, _-_, _*_, _^_, _≤_, _<_}
 use native.Mathlib.Decide.{decLt}
 use native.Mathlib.Omega.{arith}
 use borrow.Author.Tests.{leb-true}
+use lib.Dec.{leb}
 use lib.IntN.{ℤ, pos, negsuc, natAbs}
 use lib.ListN.{length, getD, take, drop}
 use Rattle.field.specs.Part.{part, put, part-length, part-part, part-other, part-same}
 use Rattle.model.specs.Numbers.{leAt, bit, sumℤ, withinℤ, within}
-use Rattle.model.specs.Records.{sampleOf, inRange, channels, channel, functions, windowOf, layoutKept}
+use Rattle.model.specs.Records.{sampleOf, inRange, channels, channel, functions, windowOf, fieldsKept, layoutKept}
 use Rattle.model.specs.Windows.{sampleAt, qualifies, valueAt, values, held, keepsEntries, displaces}
 use Rattle.model.specs.declared.Function.the-variants.{Count, Percentile}
 use Rattle.model.specs.declared.Sample.{Sample}
 use Rattle.model.specs.declared.Window.{Window}
 use Rattle.ordered.specs.Store.{Storable, valuesOf}
-use Rattle.record.specs.Ranges.{Each, all-each, both, in-range, product-positive, channel-small}
+use Rattle.field.specs.Tests.{Each, all-each, both}
+use Rattle.record.specs.Ranges.{in-range, product-positive, channel-small}
 use Rattle.slide.specs.Held.{stepped, held-stepped, held-unkept, held-length, aged-length}
 use Rattle.slide.specs.Lists.{All, all-map, one}
 use Rattle.slide.specs.Moves.{heldIn, newEntry, kept-moves, unkept-moves}
@@ -65,11 +67,15 @@ pub record Slides (w : Window) (ss : List Sample) (x : Sample) (c : Change) : Ty
   pub enters : c .enters ≡ enters w ss x
   pub new : c .new ≡ channel (w .channel) x
 
+layout-fields : (r : List ℕ) → layoutKept r ≡ true → fieldsKept r ≡ true
+unfolding layoutKept
+layout-fields r e = both (leb (leAt 1 r 0) 5) (fieldsKept r) e .1
+
 -- a window record that keeps the layout is 1 to 600 wide
 pub layout-width : (r : List ℕ) → layoutKept r ≡ true → (0 < windowOf r .width) × (windowOf r .width ≤ 600)
-unfolding layoutKept Each windowOf within
+unfolding fieldsKept Each windowOf within
 layout-width r e =
-    let h = both _ _ (all-each _ e .1 .1 .1 .1 .0) in
+    let h = both _ _ (all-each _ (layout-fields r e) .1 .1 .1 .0) in
     (leb-true 1 (leAt 2 r 4) (h .0), leb-true (leAt 2 r 4) 600 (h .1))
 
 -- every channel of a sample that is in range can be stored

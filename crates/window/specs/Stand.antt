@@ -14,7 +14,7 @@ use Rattle.model.specs.declared.Function.the-variants.{Percentile}
 use Rattle.ordered.specs.Store.{valuesOf}
 use Rattle.slide.specs.Lists.{All}
 use Rattle.slide.specs.Ordered.{ordered}
-use Rattle.slots.specs.Layout.{partLen, recordOf, movesOf, slotOf, countIn, sumIn, firstIn, storeIn}
+use Rattle.slots.specs.Layout.{partLen, recordOf, movesOf, slotOf, countIn, sumIn, firstIn, numberIn, storeIn}
 use Rattle.slots.specs.Lists.{listIn}
 
 -- the k-th of the windows
@@ -32,6 +32,10 @@ pub record SlotStands (w : Window) (ss : List Sample) (s : List ℕ) : Type 0 wh
   pub list : listIn s ≡ held w ss
   pub store : w .function ≡ Percentile → valuesOf (storeIn s) (countIn s) ≡ ordered (values w ss)
 
+-- the list of a slot that no window has yet is empty
+abbrev pub Unused : List ℕ → Type 0
+Unused s = (firstIn s < 600) × (numberIn s ≡ 0)
+
 -- the part stands for the windows ws after the samples ss
 pub record Stands (ws : List Window) (ss : List Sample) (p : List ℕ) : Type 0 where
   pub size : length p ≡ partLen
@@ -41,5 +45,7 @@ pub record Stands (ws : List Window) (ss : List Sample) (p : List ℕ) : Type 0 
   -- the ring has the last 610 samples
   pub ring : (i : ℕ) → i < length ss → length ss ≤ i + 610 → sampleOf (recordOf p i) ≡ sampleAt ss i
   pub slots : (k : ℕ) → k < length ws → SlotStands (windowOfList ws k) ss (slotOf p k)
+  -- the other slots have empty lists
+  pub unused : (k : ℕ) → length ws ≤ k → k < maxWindows → Unused (slotOf p k)
   -- the moves are 2 × entries − held
   pub moves : movesOf p + total (λ w. length (held w ss)) ws ≡ 2 * total (λ w. length (entries w ss)) ws

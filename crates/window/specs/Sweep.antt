@@ -15,7 +15,7 @@ use native.Mathlib.Omega.{arith}
 use lib.ListN.{length, take, drop, length-append, length-take, length-drop, List·getD-append}
 use lib.Seq.{getD-append-seam}
 use Rattle.field.specs.Cells.{cells}
-use Rattle.model.specs.Numbers.{sumℤ}
+use Rattle.model.specs.Numbers.{leAt, sumℤ}
 use Rattle.model.specs.Records.{sampleOf, inRange, windowOf, layoutKept}
 use Rattle.model.specs.Windows.{sampleAt, moves}
 use Rattle.model.specs.declared.Sample.{Sample}
@@ -26,11 +26,11 @@ use Rattle.slide.specs.Lists.{All, midway, total-bound}
 use Rattle.slide.specs.Moves.{entriesIn, length-entries, counted-moves, counted-start, moves-start, CountedTo, counted-first, counted-next, counted-last}
 use Rattle.slide.specs.Ordered.{ordered}
 use Rattle.slide.specs.Step.{more, length-more, sample-before, sample-new, values-start}
-use Rattle.slots.specs.Effects.{Stored, Declared, Recounted, record-same}
-use Rattle.slots.specs.Layout.{partLen, recordOf, movesOf, slotOf}
+use Rattle.slots.specs.Effects.{Stored, Declared, Cleared, Recounted, record-same, le-around}
+use Rattle.slots.specs.Layout.{partLen, recordOf, movesOf, slotOf, firstPlace, numberPlace}
 use Rattle.slots.specs.Lists.{list-none}
 use Rattle.window.specs.Slot.{Before, After, Turned}
-use Rattle.window.specs.Stand.{Stands, SlotStands, windowOfList}
+use Rattle.window.specs.Stand.{Stands, SlotStands, Unused, windowOfList}
 
 -- the first k windows have seen the sample x, which the ring has
 pub record Midway (ws : List Window) (ss : List Sample) (x : Sample) (n k : ℕ) (p : List ℕ) : Type 0 where
@@ -43,6 +43,7 @@ pub record Midway (ws : List Window) (ss : List Sample) (x : Sample) (n k : ℕ)
   pub ring : (i : ℕ) → i ≤ length ss → length ss < i + 610 → sampleOf (recordOf p i) ≡ sampleAt (more ss x) i
   pub done : (j : ℕ) → j < k → j < length ws → SlotStands (windowOfList ws j) (more ss x) (slotOf p j)
   pub waiting : (j : ℕ) → k ≤ j → j < length ws → SlotStands (windowOfList ws j) ss (slotOf p j)
+  pub unused : (j : ℕ) → length ws ≤ j → j < 16 → Unused (slotOf p j)
   pub moves : CountedTo (movesOf p) k ws ss x
 
 -- what the loop over the windows keeps: from the part p₀ it began with to p, before window k's turn
@@ -96,6 +97,7 @@ module _ (ws : List Window) (ss : List Sample) (x : Sample) (n k : ℕ) (p : Lis
         ring = λ i u v. ap sampleOf (record-same p q i (t .beside .ring)) ∙ m .ring i u v;
         done = λ j u v. done a j u v (ℕ-discrete j k);
         waiting = λ j u v. rw (t .beside .other j (λ e. omega arith)) (m .waiting j (omega arith) v);
+        unused = λ j u v. rw (t .beside .other j (λ e. omega arith)) (m .unused j u v);
         moves = counted-next ws ss x (windowOf []) k (movesOf p) (movesOf q) h (m .moves) (a .moves);
       }
     where
@@ -136,6 +138,7 @@ module _ (windows n : ℕ) (r p p₁ : List ℕ) (below : n ≤ 7200) (put : Sto
     ring = λ j u v. ring j u v (ℕ-discrete j n);
     done = λ j u v. absurd (omega arith);
     waiting = λ j u v. rw (put .slots j) (s .slots j v);
+    unused = λ j u v. rw (put .slots j) (s .unused j u v);
     moves = rw (put .moves) (counted-first ws ss (sampleOf r) (movesOf p) (s .moves));
   }
     where
@@ -158,6 +161,7 @@ module _ (windows n : ℕ) (r p p₁ : List ℕ) (below : n ≤ 7200) (put : Sto
           ranges = all-more ss (sampleOf r) (m .ranges) i;
           ring = λ j u v. m .ring j (omega arith) (omega arith);
           slots = λ j u. m .done j (omega arith) u;
+          unused = m .unused;
           moves = counted-last ws ss (sampleOf r) (movesOf q) (rw (← lw) at (m .moves));
         };
   }
@@ -167,18 +171,21 @@ pub record Added (k : ℕ) (r p q : List ℕ) : Type 0 where
   pub size : length q ≡ partLen
   pub on : (ws : List Window) → Stands ws [] p → k ≡ length ws → layoutKept r ≡ true → Stands (ws ++ (windowOf r ∷ [])) [] q
 
-declared-slot : (k : ℕ) (r p q : List ℕ) → Declared k r p q → layoutKept r ≡ true → SlotStands (windowOf r) [] (slotOf q k)
-declared-slot k r p q d e =
+declared-slot : (k : ℕ) (r p q : List ℕ) → Declared k r p q → Unused (slotOf p k) → layoutKept r ≡ true → SlotStands (windowOf r) [] (slotOf q k)
+declared-slot k r p q d n e =
     let v = values-start (windowOf r) in
     record {
       window = ap windowOf (d .«record»);
       layout = ap layoutKept (d .«record») ∙ e;
       count = d .count ∙ sym (ap length v);
       sum = d .sum ∙ sym (unfold sumℤ in ap sumℤ v);
-      first = rw (d .first) (omega arith);
-      list = list-none (slotOf q k) (d .number) ∙ sym (held-start (windowOf r));
+      first = rw (field firstPlace (omega arith)) (n .0);
+      list = list-none (slotOf q k) (field numberPlace (omega arith) ∙ n .1) ∙ sym (held-start (windowOf r));
       store = λ g. rw (d .count, v) (unfold valuesOf cells ordered in refl);
     }
+  where
+    field : (a : ℕ) → firstPlace ≤ a → leAt 2 (slotOf q k) a ≡ leAt 2 (slotOf p k) a
+    field a h = le-around 0 firstPlace (slotOf p k) (slotOf q k) (d .around) 2 a (λ x y. omega arith)
 
 pub added : (k : ℕ) (r p q : List ℕ) → length p ≡ partLen → k < 16 → Declared k r p q → Added k r p q
 added k r p q size slot d = record {
@@ -192,25 +199,27 @@ added k r p q size slot d = record {
         ranges = unfold All in tt;
         ring = λ i u v. absurd (omega arith);
         slots = λ j u. slots ws s e l j (omega arith) (ℕ-discrete j k);
+        unused = λ j u v. rw (d .beside .other j (λ f. omega arith)) (s .unused j (omega arith) v);
         moves = rw (d .moves, counted-moves (movesOf p) ws [] (s .moves), moves-start ws) (counted-start (ws ++ (windowOf r ∷ [])));
       };
 }
   where
     slots : (ws : List Window) → Stands ws [] p → k ≡ length ws → layoutKept r ≡ true → (j : ℕ) → j < length ws + 1 → Dec (j ≡ k)
         → SlotStands (windowOfList (ws ++ (windowOf r ∷ [])) j) [] (slotOf q j)
-    slots ws s e l j u (yes f) = rw (f, e, getD-append-seam ws (windowOf r) [] (windowOf [])) (rw e at (declared-slot k r p q d l))
+    slots ws s e l j u (yes f) = rw (f, e, getD-append-seam ws (windowOf r) [] (windowOf [])) (rw e at (declared-slot k r p q d (s .unused k (omega arith) slot) l))
     slots ws s e l j u (no f) =
         let h : j < length ws = omega arith in
         rw (List·getD-append ws (windowOf r ∷ []) (windowOf []) j h, d .beside .other j f) (s .slots j h)
 
 -- a cleared part stands for no windows and no samples
-pub fresh : (p q : List ℕ) → length p ≡ partLen → Recounted 0 p q → Stands [] [] q
-fresh p q size c = record {
-  size = c .size ∙ size;
+pub fresh : (p p₁ q : List ℕ) → length p ≡ partLen → Cleared 16 p p₁ → Recounted 0 p₁ q → Stands [] [] q
+fresh p p₁ q size e c = record {
+  size = c .size ∙ e .size ∙ size;
   windows = omega arith;
   samples = omega arith;
   ranges = unfold All in tt;
   ring = λ i u v. absurd (omega arith);
   slots = λ j u. absurd (omega arith);
+  unused = λ j u v. rw (c .slots j) (let z = e .empty j v in (rw (z .0) (omega arith), z .1));
   moves = rw (c .moves) (counted-start []);
 }

@@ -1,5 +1,9 @@
 // The sliding windows: their step as a sample comes, a new window, and the readings. Safe on any bytes: numbers are tested before they are used.
 use record::WindowRead;
+use slots::SLOT_LEN;
+use slots::SLOTS;
+use slots::STORE;
+use slots::STORE_LEN;
 ghost use mathlib.Core.Path.{_≡_};
 ghost use mathlib.Core.Bool.{true, false};
 ghost use mathlib.Core.List.{[]};
@@ -22,16 +26,10 @@ ghost use Rattle.window.specs.Sweep.{Sweeping, Stepped, Added};
 ghost use Rattle.window.specs.Read.{Reads};
 ghost use Rattle.window.specs.Sound.{SlotSound, Sound};
 
-// Slot 0 and its store in the windows' part, the length of a slot, of its window record and of its store.
-const SLOTS: usize = 9768;
-
-const STORES: usize = 9800;
-
-const SLOT_LEN: usize = 2432;
+// The store of slot 0.
+const STORES: usize = SLOTS + STORE;
 
 const RECORD_LEN: usize = 16;
-
-const STORE_LEN: usize = 2400;
 
 // The most samples in a window's view, and bounds on the sum of their values, either way.
 const MOST_COUNT: u32 = 600;
@@ -261,6 +259,7 @@ pub fn clear(part: &mut [u8])
     requires { ⌜ length (now part) ≡ partLen ⌝ }
     ensures { λ _. ⌜ Stands [] [] (now (part .exit)) ⌝ }
 {
+    slots::clear_lists(part);
     slots::clear_moves(part);
 }
 

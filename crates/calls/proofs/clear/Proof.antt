@@ -1,4 +1,3 @@
-use mathlib.Core.Path.{_≡_, refl, sym, ap, _∙_}
 use borrow.Author.Needs.{needs}
 use Rattle.model.specs.Trip.{clear}
 use Rattle.calls.proofs.Laws.{wrong-step}

@@ -11,15 +11,19 @@ use Rattle.limits.proofs.class_of.Tie as tie
 
 returns : tie.Need-returns
 unfolding figure row classOf
-returns c = rw (le-leb (tenths (c .before .before .before .args .v)) 600 (omega arith))
+returns c = rw (le-leb (tenths (c .before .before .before .before .args .v)) 600 (omega (arith, c .before .before .before .upper .ensures)))
 
 returns-2 : tie.Need-returns-2
 unfolding figure row classOf
-returns-2 c = let v : ℕ = tenths (c .before .before .before .before .before .args .v) in rw (lt-leb v 600 (omega arith), le-leb v 900 (omega arith))
+returns-2 c =
+    let v : ℕ = tenths (c .before .before .before .before .before .before .before .before .args .v) in
+    rw (lt-leb v 600 (omega (arith, c .before .before .before .before .before .before .before .upper .ensures)), le-leb v 900 (omega (arith, c .before .before .before .upper2 .ensures)))
 
 returns-3 : tie.Need-returns-3
 unfolding figure row classOf
-returns-3 c = let v : ℕ = tenths (c .before .before .before .before .before .args .v) in rw (lt-leb v 600 (omega arith), lt-leb v 900 (omega arith))
+returns-3 c =
+    let v : ℕ = tenths (c .before .before .before .before .before .before .before .before .args .v) in
+    rw (lt-leb v 600 (omega (arith, c .before .before .before .before .before .before .before .upper .ensures)), lt-leb v 900 (omega (arith, c .before .before .before .upper2 .ensures)))
 
 pub class-of-spec : {M : Type 1} → statement M
-class-of-spec = tie.close (tie.spec (λ c. search needs) (λ c κs. search needs) returns (λ c κs. search needs) returns-2 returns-3)
+class-of-spec = tie.close (tie.spec (λ c κs. search needs) returns (λ c κs. search needs) returns-2 returns-3)

@@ -3,17 +3,10 @@ use borrow.Author.Needs.{needs}
 use Rattle.monitor.proofs.rde_join.Statement.{statement}
 use Rattle.monitor.proofs.rde_join.Tie as tie
 
-join-tallies-requires : tie.Need-join-tallies-requires
-join-tallies-requires c κs = search needs
-
-reply-requires : tie.Need-reply-requires
-reply-requires c κs = search needs
-
-same-length : tie.Need-same-length
-same-length c = search needs
-
 returns : tie.Need-returns
 returns c = join-written _ _ _ _ _ (c .before .before .before .join-tallies .result) (c .reply .ensures) (c .before .before .before .join-tallies .ensures)
 
 pub rde-join-spec : {M : Type 1} → statement M
-rde-join-spec = tie.close (tie.spec join-tallies-requires reply-requires same-length returns)
+rde-join-spec =
+    tie.close
+    (tie.spec (λ c κs. search needs) (λ c κs. search needs) (λ c. search needs) returns)

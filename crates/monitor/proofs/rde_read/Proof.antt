@@ -3,14 +3,10 @@ use borrow.Author.Needs.{needs}
 use Rattle.monitor.proofs.rde_read.Statement.{statement}
 use Rattle.monitor.proofs.rde_read.Tie as tie
 
-read-requires : tie.Need-read-requires
-read-requires c κs = search needs
-
-reply-requires : tie.Need-reply-requires
-reply-requires c κs = search needs
-
 returns : tie.Need-returns
 returns c = stepped (c .before .read .result) (c .reply .ensures) (c .before .read .ensures)
 
 pub rde-read-spec : {M : Type 1} → statement M
-rde-read-spec = tie.close (tie.spec read-requires reply-requires returns)
+rde-read-spec =
+    tie.close
+    (tie.spec (λ c κs. search needs) (λ c κs. search needs) returns)

@@ -3,7 +3,6 @@ use mathlib.Core.Path.{sym, ap, _∙_}
 use mathlib.Core.Bool.{Bool, cond}
 use Prim.Native.Nat.{_-_, _≤_}
 use native.Mathlib.Omega.{arith}
-use Rattle.model.specs.declared.Finding.{Finding}
 use Rattle.model.specs.declared.Finding.the-variants.{Exceeded, Clean}
 use Rattle.rule.specs.Broken.{Sought, sought-start, sought-found, sought-next, sought-none}
 use Rattle.rule.proofs.finding.Statement.{statement}

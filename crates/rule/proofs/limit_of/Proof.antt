@@ -10,7 +10,6 @@ use borrow.Author.Needs.{needs}
 use Rattle.model.specs.declared.ClassTally.{ClassTally}
 use Rattle.model.specs.Records.{units}
 use Rattle.model.specs.Rules.{powerFactor, limitSide}
-use Rattle.rule.specs.declared.PowerLimit.{PowerLimit}
 use Rattle.rule.specs.Counts.{BoundedLimit, limitOf}
 use Rattle.rule.proofs.limit_of.Statement.{statement}
 use Rattle.rule.proofs.limit_of.Tie as tie

@@ -3,7 +3,6 @@ use mathlib.Core.Path.{ap, _∙_}
 use borrow.Author.Needs.{needs}
 use denote.Ref.{now}
 use Rattle.model.specs.declared.Distance.{Distance}
-use Rattle.model.specs.declared.Verdict.{Verdict}
 use Rattle.model.specs.Numbers.{leVal}
 use Rattle.model.specs.Records.{units}
 use Rattle.model.specs.Verdicts.{exceedsLimit}
@@ -17,9 +16,6 @@ use Rattle.rule.proofs.verdict.Tie as tie
 
 limits-of-requires : tie.Need-limits-of-requires
 limits-of-requires c κs = let s = c .before in tally-bounded (s .args .t) (s .pre .1 .1 .0) (s .pre .1 .1 .1)
-
-count-accelerating-requires : tie.Need-count-accelerating-requires
-count-accelerating-requires c κs = search needs
 
 broken-requires : tie.Need-broken-requires
 broken-requires c κs = let s = c .before .before .before in (tally-bounded (s .args .t) (s .pre .1 .1 .0) (s .pre .1 .1 .1), c .count-accelerating .ensures .1)
@@ -45,4 +41,4 @@ returns c ss a b =
 pub verdict-spec : {M : Type 1} → statement M
 verdict-spec =
     tie.close
-    (tie.spec limits-of-requires count-accelerating-requires broken-requires total-distance-requires exceeded-requires (λ c κs. search needs) returns)
+    (tie.spec limits-of-requires (λ c κs. search needs) broken-requires total-distance-requires exceeded-requires (λ c κs. search needs) returns)

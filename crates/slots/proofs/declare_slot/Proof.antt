@@ -5,14 +5,11 @@ use Rattle.slots.proofs.declare_slot.Tie as tie
 
 returns : tie.Need-returns
 returns c =
-    let f = c .before .before .before .before .before .before in
-    let t = f .before .before .before .before in
+    let t = c .before .before in
     let r = t .before .before .before .before in
-    declared _ _ _ _ _ _ _ (search needs) (search needs) (search needs) (r .copy-record .ensures) (t .put-count-sum .ensures) (f .slot-put .ensures)
-    (c .before .before .slot-put2 .ensures)
+    declared _ _ _ _ _ (search needs) (search needs) (search needs) (r .copy-record .ensures) (t .put-count-sum .ensures)
 
 pub declare-slot-spec : {M : Type 1} → statement M
 declare-slot-spec =
     tie.close
-    (tie.spec (λ c. search needs) (λ c. search needs) (λ c κs. search needs) (λ c κs. search needs) (λ c κs. search needs) (λ c κs. search needs)
-    (λ c. search needs) returns)
+    (tie.spec (λ c. search needs) (λ c. search needs) (λ c κs. search needs) (λ c κs. search needs) (λ c. search needs) returns)

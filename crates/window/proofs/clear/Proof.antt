@@ -5,9 +5,7 @@ use Rattle.window.specs.Sweep.{fresh}
 use Rattle.window.proofs.clear.Tie as tie
 
 returns : tie.Need-returns
-returns c = fresh _ _ (search needs) (c .before .before .clear-moves .ensures)
+returns c = fresh _ _ _ (search needs) (c .before .before .before .before .before .before .clear-lists .ensures) (c .before .before .clear-moves .ensures)
 
 pub clear-spec : {M : Type 1} → statement M
-clear-spec =
-    tie.close
-    (tie.spec (λ c κs. search needs) (λ c. search needs) returns)
+clear-spec = tie.close (tie.spec (λ c κs. search needs) (λ c κs. search needs) (λ c. search needs) returns)

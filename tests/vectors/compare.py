@@ -1,0 +1,110 @@
+"""compare.py PROGRAM: gives lists of calls as bytes to the program `vectors`,
+which replays them on the state area, and compares the answers that it writes,
+byte for byte, with the outside reckoning's.  The last line is 'N passed, M
+failed'.
+
+compare.py --files FOLDER: writes the list that `rt check` runs the program on,
+and what it must write, as the files stdin and stdout of the folder.
+
+A call is a kind, a length and as many bytes; an answer is nine bytes: what it
+is, then its numbers, little-endian (crates/replay/specs).
+"""
+
+import os
+import random
+import struct
+import subprocess
+import sys
+
+HERE = os.path.dirname(os.path.abspath(__file__))
+sys.path.insert(0, os.path.join(HERE, '..', 'reckoning'))
+
+import drives  # noqa: E402
+import generate  # noqa: E402
+import reference  # noqa: E402
+
+KINDS = ('clear', 'declare', 'sample', 'close', 'read', 'verdict')
+CLEAR = (('clear',), ('number', 0))
+ROOM = 131072 // 9    # answers that the program has room for
+
+
+def call_bytes(call):
+    record = b''
+    if call[0] in ('declare', 'sample'):
+        record = call[1]
+    if call[0] == 'read':
+        record = struct.pack('<I', call[1])
+    return bytes([KINDS.index(call[0]), len(record)]) + record
+
+
+def answer_bytes(answer):
+    if answer[0] == 'number':
+        return struct.pack('<Bq', 0, answer[1])
+    if answer[0] == 'refused':
+        return struct.pack('<BQ', 1, answer[1])
+    _, mask, exceeded, finding = answer
+    return struct.pack('<BIB', 2, mask, exceeded) + struct.pack('<I', finding)[:3]
+
+
+def script_of(calls):
+    return b''.join(call_bytes(call) for call in calls)
+
+
+def answers_of(answers):
+    return b''.join(answer_bytes(answer) for answer in answers)
+
+
+def after_clear(calls, answers):
+    return [CLEAR[0]] + calls, [CLEAR[1]] + answers
+
+
+def lists():
+    """Triples of a name, a list of calls and its answers."""
+    rng = random.Random(21)
+    for name, (calls, answers) in generate.named_lists().items():
+        yield (name,) + after_clear(calls, answers)
+    for k in range(200):
+        yield ('random list %d' % k,) + after_clear(*generate.random_list(rng))
+    for k in range(4):
+        yield ('long list %d' % k,) + after_clear(*generate.long_list(rng, 1500))
+    for k in range(10):
+        yield ('verdicts %d' % k,) + after_clear(*generate.verdict_each_list(rng, 120))
+    for n, drive in (('clean', drives.clean_drive()), ('exceeded', drives.exceeded_drive())):
+        yield (n + ' drive',) + after_clear(*generate.drive_list(drive))
+
+
+def main():
+    if sys.argv[1] == '--files':
+        calls, answers = after_clear(*generate.random_list(random.Random(3), 40, 20))
+        for name, data in (('stdin', script_of(calls)), ('stdout', answers_of(answers))):
+            with open(os.path.join(sys.argv[2], name), 'wb') as file:
+                file.write(data)
+        return 0
+    program = os.path.abspath(sys.argv[1])
+    passed = failed = 0
+
+    def compared(name, script, expected):
+        nonlocal passed, failed
+        done = subprocess.run([program], input=script, capture_output=True, timeout=60)
+        if (done.stdout, done.stderr, done.returncode) == (expected, b'', 0):
+            passed += 1
+        else:
+            failed += 1
+            print('%s: %d bytes expected, %d written' % (name, len(expected), len(done.stdout)))
+
+    for name, calls, answers in lists():
+        script, expected = script_of(calls), answers_of(answers)
+        compared(name, script, expected)
+    # what is left of a call at the end is no call; a kind above 5 is a verdict; past the room no call is made
+    script, expected = script_of(calls), answers_of(answers)
+    for extra in (b'\x00', b'\x02\x10' + bytes(15), b'\x05\x01'):
+        compared('%d bytes of a call' % len(extra), script + extra, expected)
+    compared('kind 200', script_of([CLEAR[0]]) + b'\xc8\x00', answers_of([CLEAR[1], reference.Trip().verdict()]))
+    compared('nothing', b'', b'')
+    compared('more calls than room', script_of([CLEAR[0]] * (ROOM + 9)), answers_of([CLEAR[1]] * ROOM))
+    print('%d passed, %d failed' % (passed, failed))
+    return failed != 0
+
+
+if __name__ == '__main__':
+    sys.exit(main())

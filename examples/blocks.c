@@ -1,9 +1,18 @@
 /* Tallies two blocks of samples and joins them. Build, after `rt staticlib monitor`:
- *     gcc -Wall -Wextra -Werror -Iinclude examples/blocks.c target/staticlib/libmonitor.a -o target/blocks && target/blocks */
+ *     gcc -std=c11 -Wall -Wextra -Werror -Iinclude examples/blocks.c target/staticlib/libmonitor.a -o target/blocks && target/blocks */
 #include <inttypes.h>
 #include <stdio.h>
 
 #include "rde.h"
+
+/* The k-th number of a tally. */
+static uint64_t number(const uint8_t *tally, int k)
+{
+    uint64_t n = 0;
+    for (int i = 7; i >= 0; i--)
+        n = 256 * n + tally[8 * k + i];
+    return n;
+}
 
 int main(void)
 {
@@ -15,7 +24,7 @@ int main(void)
         rde_tally(second, sizeof second, b, sizeof b).refusal != RDE_OK ||
         rde_join(a, sizeof a, b, sizeof b, both, sizeof both).refusal != RDE_OK)
         return 1;
-    printf("samples: urban %u, rural %u, motorway %u\n", both[0], both[8], both[16]);
-    printf("motorway distance: %u units of 1/36000 km\n", both[40] + 256u * both[41]);
+    printf("samples: urban %" PRIu64 ", rural %" PRIu64 ", motorway %" PRIu64 "\n", number(both, 0), number(both, 1), number(both, 2));
+    printf("motorway distance: %" PRIu64 " units of 1/36000 km\n", number(both, 5));
     return 0;
 }

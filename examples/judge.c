@@ -57,6 +57,17 @@ static int show_verdict(void)
     return 0;
 }
 
+/* A fresh trip with the three windows. */
+static int start(void)
+{
+    if (rde_clear(area, sizeof area).refusal != RDE_OK)
+        return 0;
+    for (int w = 0; w < 3; w++)
+        if (rde_declare(area, sizeof area, windows[w], RDE_RECORD_LEN).refusal != RDE_OK)
+            return 0;
+    return 1;
+}
+
 int main(int argc, char **argv)
 {
     uint8_t record[RDE_RECORD_LEN];
@@ -66,11 +77,11 @@ int main(int argc, char **argv)
         fprintf(stderr, "usage: judge FILE\n");
         return 2;
     }
-    rde_clear(area, sizeof area);
-    for (int w = 0; w < 3; w++)
-        rde_declare(area, sizeof area, windows[w], RDE_RECORD_LEN);
-    while (fread(record, 1, sizeof record, drive) == sizeof record) {
-        rde_answer a = rde_sample(area, sizeof area, record, sizeof record);
+    if (!start())
+        return 2;
+    /* a last piece that is no whole record is refused too */
+    for (size_t got; (got = fread(record, 1, sizeof record, drive)) > 0;) {
+        rde_answer a = rde_sample(area, sizeof area, record, got);
         if (a.refusal != RDE_OK) {
             printf("sample %ld refused: %" PRIu32 "\n", second, a.refusal);
             break;

@@ -1,10 +1,15 @@
 /* The judging core of the emissions handset: the six calls on a lent state area, and tallies of blocks of samples.
  *
  * All numbers in records and tallies are little-endian, signed ones in two's complement. No function keeps a pointer, allocates, or
- * reads or writes outside the lengths it is given; each ends for any bytes. A slice of length 0 may have any pointer that is not null.
+ * reads or writes outside the lengths it is given; each ends for any bytes. No pointer may be null, also with length 0; none needs an
+ * alignment.
  *
  * A trip: rde_clear, then rde_declare for each window, then rde_sample once a second, rde_read and rde_verdict at any time, and
- * rde_close at the end. The whole state is the area: between calls nobody else may write it, and records lie outside it.
+ * rde_close at the end. The whole state is the area: between calls nobody else may write it, and records lie outside it. It may be
+ * copied, moved or saved between calls. Calls on different areas may run at the same time; on one area only rde_read and rde_verdict.
+ *
+ * After a refused sample the trip is as it was: the next record has the same second, and no second can be left out. What stands for a
+ * sensor that fails is the caller's choice.
  */
 #ifndef RDE_H
 #define RDE_H
@@ -25,9 +30,9 @@ typedef struct {
 /* What rde_verdict answers; at a refusal the other three are 0. */
 typedef struct {
     uint32_t refusal;
-    uint32_t broken;   /* bit k: rule k is broken */
+    uint32_t broken;   /* bit k: rule k, 0 to 20, is broken; the other bits are 0 */
     uint32_t exceeded; /* 1: the NOx limit is exceeded; 0: it is not */
-    uint32_t word;     /* the finding: the lowest broken rule, 0 to 31; else RDE_EXCEEDED; else RDE_CLEAN */
+    uint32_t word;     /* the finding: the lowest broken rule; else RDE_EXCEEDED; else RDE_CLEAN */
 } rde_verdict_answer;
 
 /* Refusal numbers. */
@@ -73,7 +78,7 @@ enum {
  *
  * A window record:
  *     at  type  what
- *      0  u8    function: 0 count, 1 sum, 2 smallest, 3 largest, 4 average (rounded down), 5 percentile
+ *      0  u8    function: 0 count, 1 sum, 2 smallest, 3 largest, 4 average (rounded down: -3 and -4 give -4), 5 percentile
  *      1  u8    channel that it reads: 0 speed, 1 altitude, 2 temperature, 3 exhaust flow, 4 NOx, 5 CO2, 6 exhaust flow x NOx
  *      2  u8    condition channel, 0 to 6
  *      3  u8    0
@@ -101,17 +106,38 @@ enum {
  *     88  u64   samples above 1300 m                             n
  *     96  u64   sum of channel 6                                 100000000 x n */
 
+/* The rules of a verdict. n: the trip's samples. Of a class: N its samples, S its distance. D: the three distances together. V: a
+ * sample's speed. A: the next sample's speed less the previous one's, a missing one being 0; a sample is accelerating if A is 8 or
+ * more. P95: the percentile, as above, of V x A over a class's accelerating samples. All compared exactly. Rule: broken when
+ *     0        n < 5400
+ *     1        n > 7200
+ *     2, 3, 4  100 x S outside 29 x D to 44 x D (urban), 23 x D to 43 x D (rural, motorway)
+ *     5, 6, 7  S < 576000, which is 16 km (urban, rural, motorway)
+ *     8        100 x (samples with V < 10) outside 6 x N to 30 x N (urban)
+ *     9        S outside 150 x N to 400 x N (urban)
+ *     10       fewer than 300 samples with V > 1000
+ *     11       some V > 1600
+ *     12       100 x (samples with 1450 < V <= 1600) > 3 x N (motorway)
+ *     13       some temperature outside 2660 to 3080
+ *     14       some altitude > 1300
+ *     15 to 17 fewer than 150 accelerating samples (urban, rural, motorway)
+ *     18 to 20 (urban, rural, motorway; kept if no sample is accelerating) where S <= 746 x N,
+ *              10000 x P95 x N > 2592 x (136 x S + 144400 x N); else 100000 x P95 x N > 2592 x (742 x S + 1896600 x N)
+ * Exceeded, told also where rules are broken: D > 0 and 1586 x (sum of channel 6) > 80000 x D, which is above 80 mg/km. */
+
 /* The length that every area must have. */
 size_t rde_area_len(void);
 
-/* Starts a trip: no window, no sample, not closed, whatever bytes the area held. Value 0. Refusal: RDE_LENGTH. */
+/* Starts a trip: no window, no sample, not closed, whatever bytes the area held. It does not erase the samples of an earlier trip.
+ * Value 0. Refusal: RDE_LENGTH. */
 rde_answer rde_clear(uint8_t *area, size_t area_len);
 
 /* Declares a window by its record. Value: the window's number, from 0.
  * Refusals, in this order: RDE_LENGTH, RDE_RECORD_LENGTH, RDE_CLOSED, RDE_STARTED, RDE_WINDOWS_FULL, RDE_WINDOW. */
 rde_answer rde_declare(uint8_t *area, size_t area_len, const uint8_t *record, size_t record_len);
 
-/* Takes the sample of the next second. Value: the moves of held entries since the last clear.
+/* Takes the sample of the next second. Value: the moves since the last clear, that is, how often an entry was appended to or removed
+ * from the lists that the windows of functions 2 and 3 keep, at most two for a qualifying sample and window; callers may ignore it.
  * Refusals, in this order: RDE_LENGTH, RDE_RECORD_LENGTH, RDE_CLOSED, RDE_FULL, RDE_SECOND, RDE_RANGE. */
 rde_answer rde_sample(uint8_t *area, size_t area_len, const uint8_t *record, size_t record_len);
 
@@ -125,8 +151,9 @@ rde_answer rde_read(const uint8_t *area, size_t area_len, uint32_t window);
 /* The verdict on the samples taken so far, the trip closed or not. Refusal: RDE_LENGTH. Changes nothing. */
 rde_verdict_answer rde_verdict(const uint8_t *area, size_t area_len);
 
-/* rde_sample, rde_read and rde_verdict may also refuse with RDE_DAMAGED, after RDE_LENGTH and RDE_RECORD_LENGTH. An area that the
- * six calls alone have written since an accepted rde_clear never gives it; not all damage is found. */
+/* RDE_DAMAGED is given last by rde_sample, after RDE_LENGTH by rde_verdict, and by rde_read for a number of 16 or more that the area
+ * claims to have. An area that the six calls alone have written since an accepted rde_clear never gives it. Not all damage is found: a
+ * damaged area, or one that was never cleared, may as well give other refusals or wrong values. */
 
 /* The tally of a block of sample records (their seconds are not looked at) into out, which has exactly RDE_TALLY_LEN bytes and
  * shares no byte with block. Value 0.
@@ -134,7 +161,8 @@ rde_verdict_answer rde_verdict(const uint8_t *area, size_t area_len);
 rde_answer rde_tally(const uint8_t *block, size_t block_len, uint8_t *out, size_t out_len);
 
 /* The tally of two tallies' samples together into out, which has exactly RDE_TALLY_LEN bytes and shares no byte with a or b. Value 0.
- * Refusals, in this order: RDE_LENGTH, RDE_TALLY (a or b ill-formed), RDE_JOINED; out is then as it was. */
+ * a and b may be the same bytes. Refusals, in this order: RDE_LENGTH (of out), RDE_TALLY (a or b not RDE_TALLY_LEN bytes, or above a
+ * limit of the table), RDE_JOINED; out is then as it was. */
 rde_answer rde_join(const uint8_t *a, size_t a_len, const uint8_t *b, size_t b_len, uint8_t *out, size_t out_len);
 
 #ifdef __cplusplus

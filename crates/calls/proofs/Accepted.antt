@@ -5,11 +5,9 @@ use mathlib.Core.Path.{_≡_, refl, sym, ap, _∙_, subst}
 use Prim.Native.Nat.{ℕ, _+_, _^_, _≤_, _<_}
 use native.Mathlib.Nat.{mul-le-mul-right}
 use native.Mathlib.Omega.{arith}
-use borrow.Author.Tests.{le-leb}
 use lib.Dec.{lit<}
-use lib.IntN.{ℤ, pos, natAbs}
+use lib.IntN.{ℤ, pos}
 use lib.ListN.{length, length-append}
-use lib.Signed.{leZ}
 use Rattle.field.specs.Cells.{cells}
 use Rattle.model.specs.declared.Sample.{Sample}
 use Rattle.model.specs.declared.Speed.{Speed}
@@ -275,10 +273,6 @@ module _ {s : List ℕ} (size : length s ≡ areaLen) (k : ℕ) (h : k < partsOf
 -- the verdict on the samples
 judged-fine : (v : Verdict) (k : ℕ) → judged v ≡ refused k → ⊥
 judged-fine v k e = let w : _≡_ {A = ℕ} 0 1 = cc in omega arith
-
--- what the verdict asks of a tally that was read
-pub tally-judged : (t : Tally) → WellFormed t → (sound t ≡ true) × (leZ (pos 0) (t .nox) ≡ true)
-tally-judged t h = (facts-sound t (h .facts), rw (h .positive) (le-leb 0 (natAbs (t .nox)) (omega arith)))
 
 -- the verdict on the tally and the speeds of the area is that on the trip's samples
 pub verdict-held : {s : List ℕ} {v : Verdict} {n : ℕ} {u : Tally} → n ≡ partsOf s .samples → u ≡ tallyFrom (partsOf s .tally)

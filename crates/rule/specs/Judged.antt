@@ -23,12 +23,12 @@ use Rattle.model.specs.Numbers.{leVal, leAt, bit, range, filter, count}
 use Rattle.model.specs.Records.{units, sampleOf}
 use Rattle.model.specs.Windows.{sampleAt, percentile}
 use Rattle.model.specs.Rules.{speed, inClass, accelerating, power, acceleratingIn, samplesIn, distanceIn, distance, tooShort, tooLong, shareOutside, tooNear, stopsOutside, urbanMeanOutside, tooFewAbove100, someAbove160, tooManyAbove145, someTemperatureFault, someAltitudeFault, tooFewAccelerating, p95, powerFactor, limitSide, beyondLimit, someBeyond, powerBeyond, rules}
-use Rattle.model.specs.Tallies.{classTally, tallyOf, samplesOf, sound}
+use Rattle.model.specs.Tallies.{classTally, tallyOf, samplesOf}
 use Rattle.model.specs.Verdicts.{broken, mask, exceeded, exceedsLimit, finding, verdictOf}
 use Rattle.limits.specs.Class.{in-class}
 use Rattle.limits.specs.Table.{row, figure}
 use Rattle.slide.specs.Order.{leZ-trans, ltZ-leZ, ltZ-true}
-use Rattle.tally.specs.Sound.{Sound, sound-facts}
+use Rattle.tally.specs.Sound.{Sound, WellFormed, nox-most}
 use Rattle.slide.specs.Percentile.{Upward, passes, percentile-passes}
 use Rattle.rule.specs.declared.ClassCounts.{ClassCounts}
 use Rattle.rule.specs.declared.Counts.{Counts}
@@ -173,22 +173,18 @@ module _ (ss : List Sample) (t : Tally) (n : ℕ) (vs : List ℕ) (k : Counts) (
       let bits : v .broken ≡ mask (broken ss) = e ∙ ap mask rules-are in
       rw (← first, ← over, ← bits)
 
--- what a sound tally of NOx from 0 on keeps within bounds
-small-nox : (z : ℤ) (m : ℕ) → leZ (pos 0) z ≡ true → leZ z (pos m) ≡ true → natAbs z ≤ m
-small-nox (pos u) m h k = leb-true u m k
-small-nox (negsuc u) m h k = absurd (false≢true h)
-
-pub tally-bounded : (t : Tally) → sound t ≡ true → leZ (pos 0) (t .nox) ≡ true → BoundedTally t
+-- what a well-formed tally keeps within bounds
+pub tally-bounded : (t : Tally) → WellFormed t → BoundedTally t
 unfolding samplesOf
-tally-bounded t h z =
-    let f : Sound t = sound-facts t h in
+tally-bounded t w =
+    let f : Sound t = w .facts in
     let n : samplesOf t ≤ 7201 = f .samples in
     let u : units (t .urban .distance) ≤ 600 * t .urban .samples = f .urban in
     let r : units (t .rural .distance) ≤ 900 * t .rural .samples = f .rural in
     let m : units (t .motorway .distance) ≤ 3000 * t .motorway .samples = f .motorway in
     let stops : t .stops ≤ samplesOf t = f .stops in
     let over145 : t .over145 ≤ samplesOf t = f .over145 in
-    let nox : natAbs (t .nox) ≤ 100000000 * samplesOf t = small-nox (t .nox) (100000000 * samplesOf t) z (f .nox) in
+    let nox : natAbs (t .nox) ≤ 100000000 * samplesOf t = nox-most (t .nox) (100000000 * samplesOf t) (w .positive) (f .nox) in
     record {
       urban = record { samples = omega arith; distance = omega arith };
       rural = record { samples = omega arith; distance = omega arith };

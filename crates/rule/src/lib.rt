@@ -3,14 +3,14 @@ ghost use mathlib.Core.Path.{_≡_};
 ghost use mathlib.Core.Bool.{Bool, true};
 ghost use mathlib.Core.List.{List, [], _∷_};
 ghost use Prim.Native.Nat.{_+_, _*_, _≤_, _<_};
-ghost use lib.IntN.{pos, natAbs};
+ghost use lib.IntN.{natAbs};
 ghost use lib.ListN.{length};
-ghost use lib.Signed.{leZ};
 ghost use Rattle.model.specs.declared.Sample.{Sample};
 ghost use Rattle.model.specs.Numbers.{bit, outside};
 ghost use Rattle.model.specs.Records.{units};
-ghost use Rattle.model.specs.Tallies.{tallyOf, sound};
+ghost use Rattle.model.specs.Tallies.{tallyOf};
 ghost use Rattle.model.specs.Verdicts.{mask, exceedsLimit, finding as findingOf, verdictOf};
+ghost use Rattle.tally.specs.Sound.{WellFormed};
 ghost use Rattle.rule.specs.Speeds.{speedsOf, Stored, speedIn, speedBeforeIn, accelerationOf, powerOf, Appended};
 ghost use Rattle.rule.specs.Counts.{BoundedClass, BoundedTally, BoundedLimit, BoundedLimits, BoundedClassCounts, BoundedCounts, limitOf, limitsOf, beyond, withPower, counted, noCounts, countsOf};
 ghost use Rattle.rule.specs.Broken.{distanceOf, shareRule, powerRule, lengthRules, shareRules, distanceRules, urbanRules, countRules, acceleratingRules, powerRules, brokenBy};
@@ -382,7 +382,7 @@ fn finding(broken: u32, exceeded: bool) -> Finding
 
 // The verdict on the samples with this tally and these first n speeds.
 pub fn verdict(t: Tally, speeds: &[u8], n: usize) -> Verdict
-    requires { ⌜ (2 * n ≤ length (now speeds)) × ((n ≤ 7201) × ((sound t ≡ true) × (leZ (pos 0) (t .nox) ≡ true))) ⌝ }
+    requires { ⌜ (2 * n ≤ length (now speeds)) × ((n ≤ 7201) × WellFormed t) ⌝ }
     ensures { λ r. ⌜ ((ss : List Sample) → t ≡ tallyOf ss → Stored (now (speeds .entry)) n ss → r ≡ verdictOf ss) ⌝ }
 {
     let k = count_accelerating(speeds, n, limits_of(t));

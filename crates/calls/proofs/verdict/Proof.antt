@@ -10,7 +10,7 @@ use Rattle.tally.specs.Bytes.{known}
 use Rattle.calls.specs.Area.{partsOf}
 use Rattle.calls.proofs.Laws.{wrong-step}
 use Rattle.calls.proofs.Refusals.{verdict-damaged}
-use Rattle.calls.proofs.Accepted.{verdict-done, tally-judged, verdict-held, ill-formed, many-samples}
+use Rattle.calls.proofs.Accepted.{verdict-done, verdict-held, ill-formed, many-samples}
 use Rattle.calls.proofs.verdict.Statement.{statement}
 use Rattle.calls.proofs.verdict.Tie as tie
 
@@ -29,7 +29,7 @@ read-tally-requires c κs = (c .before .before .before .before .if1 .left, sym (
 verdict-requires : tie.Need-verdict-requires
 verdict-requires c κs =
     let r = known _ _ (c .before .read-tally .ensures) (read-tally-requires (c .before .before) κs .1) in
-    (simp (length-take, length-drop) (omega (arith, c .before .before .before .before .before .before .if1 .left, c .before .before .before .before .if2 .left)), (c .before .before .before .before .if2 .left, tally-judged _ (r .well)))
+    (simp (length-take, length-drop) (omega (arith, c .before .before .before .before .before .before .if1 .left, c .before .before .before .before .if2 .left)), (c .before .before .before .before .if2 .left, r .well))
 
 returns-4 : tie.Need-returns-4
 unfolding partsOf part

@@ -15,16 +15,16 @@ use Rattle.rule.proofs.verdict.Statement.{statement}
 use Rattle.rule.proofs.verdict.Tie as tie
 
 limits-of-requires : tie.Need-limits-of-requires
-limits-of-requires c κs = let s = c .before in tally-bounded (s .args .t) (s .pre .1 .1 .0) (s .pre .1 .1 .1)
+limits-of-requires c κs = let s = c .before in tally-bounded (s .args .t) (s .pre .1 .1)
 
 broken-requires : tie.Need-broken-requires
-broken-requires c κs = let s = c .before .before .before in (tally-bounded (s .args .t) (s .pre .1 .1 .0) (s .pre .1 .1 .1), c .count-accelerating .ensures .1)
+broken-requires c κs = let s = c .before .before .before in (tally-bounded (s .args .t) (s .pre .1 .1), c .count-accelerating .ensures .1)
 
 total-distance-requires : tie.Need-total-distance-requires
-total-distance-requires c κs = let s = c .before .before .before .before in tally-bounded (s .args .t) (s .pre .1 .1 .0) (s .pre .1 .1 .1)
+total-distance-requires c κs = let s = c .before .before .before .before in tally-bounded (s .args .t) (s .pre .1 .1)
 
 exceeded-requires : tie.Need-exceeded-requires
-exceeded-requires c κs = let s = c .before .before .before .before .before in (tally-bounded (s .args .t) (s .pre .1 .1 .0) (s .pre .1 .1 .1), c .total-distance .ensures .1)
+exceeded-requires c κs = let s = c .before .before .before .before .before in (tally-bounded (s .args .t) (s .pre .1 .1), c .total-distance .ensures .1)
 
 returns : tie.Need-returns
 returns c ss a b =

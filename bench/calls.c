@@ -1,4 +1,4 @@
-/* The six calls by the core and by plain C, in one run. */
+/* Samples, readings, verdicts and clears by the core and by plain C, in one run. */
 #include "measure.h"
 #include "sides.h"
 

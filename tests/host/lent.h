@@ -167,6 +167,12 @@ static inline int is_refusal_alone(const answer *a)
     return same_answer(a, &alone);
 }
 
+/* Is it one of the calls that change the area? No other changes a byte of it. */
+static inline int writes(const call *c)
+{
+    return c->kind == CLEAR || c->kind == DECLARE || c->kind == SAMPLE || c->kind == CLOSE;
+}
+
 /* One call on the area, checked. */
 static inline answer lent_call(lent *l, const call *c)
 {
@@ -182,7 +188,7 @@ static inline answer lent_call(lent *l, const call *c)
         lent_wrong(l, "a record of another length is not refused with 1");
     if (c->kind == CLEAR && a.refusal != 0)
         lent_wrong(l, "clear is refused");
-    if (a.refusal == 0 && c->kind != READ && c->kind != VERDICT)
+    if (a.refusal == 0 && writes(c))
         lent_settle(l);
     lent_check(l, a.refusal != 0 ? "a refusal changes a byte" : "a byte is changed that should not be");
     return a;
@@ -200,7 +206,7 @@ static inline void lent_other_length(lent *l, const call *c, size_t area_len)
     lent_check(l, "an area of another length is changed");
 }
 
-/* All six calls, this one's record lent, with one of four other lengths. */
+/* All calls, this one's record lent, with one of four other lengths. */
 static inline void lent_other_lengths(lent *l, const call *c, unsigned which)
 {
     static const size_t lengths[] = {0, 15, RDE_AREA_LEN - 1, RDE_AREA_LEN + 1};

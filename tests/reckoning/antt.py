@@ -21,10 +21,10 @@ def bytes_term(record):
 
 def call_term(call):
     if call[0] in ('declare', 'sample'):
-        return '(%s %s)' % (call[0], bytes_term(call[1]))
+        return '(trip.%s %s)' % (call[0], bytes_term(call[1]))
     if call[0] == 'read':
-        return '(read %d)' % call[1]
-    return call[0]
+        return '(trip.read %d)' % call[1]
+    return 'trip.' + call[0]
 
 
 def integer_term(n):

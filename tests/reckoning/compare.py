@@ -4,11 +4,12 @@ and must find them equal to the reckoning's.
 
 Run: python3 tests/reckoning/compare.py [--lists 300] [--verdicts 20] [--seed 1] ..
 
-It writes a scratch repository of two crates, the model and the equations, into a
-temporary folder, and has `rt must-fail` prove it.  One equation is also tried with
-an answer that is wrong, which the prover must refuse.  The last line is 'N passed,
-M failed': the crate of equations is proved as a whole or not at all, so M is 0 or
-all of them.
+It writes a scratch repository of three crates, the model, the equations but for
+the last of them, and these, into a temporary folder, and has `rt must-fail` prove
+it.  The last equation is also tried with an answer that is wrong, which the prover
+must refuse; this checks its crate again, which is why that is small.  The last line
+is 'N passed, M failed': the equations are proved as a whole or not at all, so M is
+0 or all of them.
 """
 
 import argparse
@@ -33,7 +34,8 @@ use mathlib.Core.List.{[], _∷_}
 use mathlib.Core.Path.{_≡_, refl}
 use lib.IntN.{pos, negsuc}
 use Rattle.model.specs.declared.Finding.the-variants.{Rule, Exceeded, Clean}
-use Rattle.model.specs.Trip.{clear, declare, sample, close, read, verdict, number, judged, refused, empty}
+use Rattle.model.specs.Trip as trip
+use Rattle.model.specs.Trip.{number, judged, refused, empty}
 use Rattle.model.specs.Blocks.{wrote, unwritten}
 """
 FILES = ('Numbers', 'Records', 'Windows', 'Rules', 'Verdicts', 'Tallies', 'Refusals',
@@ -91,21 +93,27 @@ def all_equations(options):
     return [antt.list_equation(*calls) for calls in small + drives + edges] + tallies + reports
 
 
-def write_repository(folder, equations):
-    shutil.copytree(MODEL, os.path.join(folder, 'crates', 'model'),
-                    ignore=shutil.ignore_patterns('must-fail'))
-    scratch = os.path.join(folder, 'crates', 'compared')
-    write(os.path.join(folder, 'crates.txt'), 'model:\ncompared: model\n')
-    write(os.path.join(scratch, 'src', 'lib.rt'), '// Calls with their answers.\n')
+def write_crate(folder, equations, starts):
+    """A crate of the equations from each of these starts on, a file for each."""
     texts = header_and_unfolding()
-    starts = range(0, len(equations), PER_FILE)
-    for k, start in enumerate(starts):
-        write(os.path.join(scratch, 'specs', 'Part%d.antt' % k),
+    write(os.path.join(folder, 'src', 'lib.rt'), '// Calls with their answers.\n')
+    for start in starts:
+        write(os.path.join(folder, 'specs', 'Part%d.antt' % (start // PER_FILE)),
               file_text(equations[start:start + PER_FILE], start, *texts))
-    write(os.path.join(scratch, 'specs', 'Lib.antt'),
-          ''.join('pub mod Part%d\n' % k for k in range(len(starts))))
+    write(os.path.join(folder, 'specs', 'Lib.antt'),
+          ''.join('pub mod Part%d\n' % (start // PER_FILE) for start in starts))
+
+
+def write_repository(folder, equations):
+    crates = os.path.join(folder, 'crates')
+    shutil.copytree(MODEL, os.path.join(crates, 'model'),
+                    ignore=shutil.ignore_patterns('must-fail'))
+    write(os.path.join(folder, 'crates.txt'), 'model:\ncompared: model\nlast: model\n')
+    starts = range(0, len(equations), PER_FILE)
+    write_crate(os.path.join(crates, 'compared'), equations, starts[:-1])
+    write_crate(os.path.join(crates, 'last'), equations, starts[-1:])
     last = len(equations) - 1
-    write(os.path.join(scratch, 'must-fail', 'wrong_answer.edit'), wrong_edit(last, *equations[last]))
+    write(os.path.join(crates, 'last', 'must-fail', 'wrong_answer.edit'), wrong_edit(last, *equations[last]))
 
 
 def main():

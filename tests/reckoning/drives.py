@@ -2,7 +2,8 @@
 each rule's edge, and the clean and the exceeded drive.
 
 A drive is a list of reference.Sample with seconds from 0.  Speeds are in tenths
-of km/h; a distance is a sum of speeds over seconds (1/36,000 km).
+of km/h; a distance is a sum of speeds over seconds (1/36,000 km).  The altitudes
+of a drive's first and last sample differ by at most 100 m (the self test checks it).
 """
 
 from collections import namedtuple
@@ -288,8 +289,10 @@ def motorway_800(fast):
 
 
 def air_edges():
-    """Rule 13: temperatures 2660, 2659, 3080, 3081; rule 14: altitude 1300, 1301."""
+    """Rule 13: temperatures 2660, 2659, 3080, 3081; rule 14: altitude 1300, 1301
+    in a drive at 1250 m, so that the first and the last sample may have it too."""
     clean = clean_drive()
+    high = [s._replace(altitude=1250) for s in clean]
     edges = []
     for place in (0, 2000, len(clean) - 1):
         for kept, broken in ((2660, 2659), (3080, 3081)):
@@ -297,8 +300,8 @@ def air_edges():
                               changed(clean, place, temperature=kept),
                               changed(clean, place, temperature=broken), True))
         edges.append(Edge('altitude 1300 at %d' % place, 14,
-                          changed(clean, place, altitude=1300),
-                          changed(clean, place, altitude=1301), True))
+                          changed(high, place, altitude=1300),
+                          changed(high, place, altitude=1301), True))
     return edges
 
 
@@ -471,15 +474,17 @@ EDGE_SPEEDS = (0, 9, 10, 599, 600, 601, 899, 900, 901, 1000, 1001, 1450, 1451,
 
 def random_drive(rng, n):
     """n samples in three parts, one per class in any order, or in one long rise;
-    NOx near the limit, air mostly in its limits."""
+    NOx near the limit, air mostly in its limits.  All altitudes lie within 100 m,
+    but those above 1300 m, which are neither the first nor the last."""
     nox = rng.choice((10, 20, 40, 45, 50, 60, 200))
+    ground = rng.choice((-500, -50, 650, 1200))
     wild_air = rng.random() < 0.3
     samples = []
     for k, speed in enumerate(random_speeds(rng, n)):
-        temperature, altitude = rng.randint(2660, 3080), rng.randint(-500, 1300)
+        temperature, altitude = rng.randint(2660, 3080), ground + rng.randint(0, 100)
         if wild_air and rng.random() < 0.02:
             temperature = rng.choice((2000, 2659, 3081, 3500))
-        if wild_air and rng.random() < 0.02:
+        if wild_air and 0 < k < n - 1 and rng.random() < 0.02:
             altitude = rng.choice((1301, 5000))
         samples.append(Sample(k, speed, altitude, temperature, rng.randint(300, 900),
                               max(0, nox + rng.randint(-10, 10)), rng.randint(0, 100000)))

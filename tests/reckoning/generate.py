@@ -342,11 +342,15 @@ def full_trip_list():
     return calls, reference.replay(calls)
 
 
-def drive_lists():
-    """Every edge drive, clean drive and exceeded drive as a list of calls."""
+def trip_lists():
+    """The clean, the exceeded and the full drive as lists of calls."""
     yield 'clean', drive_list(drives.clean_drive())
     yield 'exceeded', drive_list(drives.exceeded_drive())
     yield 'full', full_trip_list()
+
+
+def edge_drive_lists():
+    """Every edge drive as a list of calls."""
     for edge in drives.all_edges():
         yield edge.name + ', kept', drive_list(edge.kept)
         yield edge.name + ', broken', drive_list(edge.broken)
@@ -484,7 +488,10 @@ def main():
                         help='lists that read every window after every sample')
     parser.add_argument('--tallies', type=int, default=0, help='tallies of blocks and joinings')
     parser.add_argument('--named', action='store_true', help='the fixed lists too')
-    parser.add_argument('--drives', action='store_true', help='the edge drives too (large)')
+    parser.add_argument('--trips', action='store_true',
+                        help='the clean, the exceeded and the full drive too')
+    parser.add_argument('--drives', action='store_true',
+                        help='these and the edge drives too (large)')
     options = parser.parse_args()
     rng = random.Random(options.seed)
     write = sys.stdout.write
@@ -507,8 +514,11 @@ def main():
             write(line)
     for _ in range(options.tallies):
         write(tally_case(rng))
+    if options.trips or options.drives:
+        for name, (calls, answers) in trip_lists():
+            write(list_text(name, calls, answers))
     if options.drives:
-        for name, (calls, answers) in drive_lists():
+        for name, (calls, answers) in edge_drive_lists():
             write(list_text(name, calls, answers))
 
 

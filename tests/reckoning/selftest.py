@@ -3,6 +3,8 @@ the reports, the rolling recount, the edge drives, and what the generator
 reaches.  Run: python3 tests/reckoning/selftest.py
 """
 
+import glob
+import os
 import random
 import sys
 
@@ -14,6 +16,8 @@ from reference import (AVERAGE, COUNT, LARGEST, PERCENTILE, SMALLEST, SUM, Sampl
                        Trip, Window)
 
 RESULTS = []
+EXAMPLES = os.path.join(os.path.dirname(os.path.abspath(__file__)),
+                        '..', '..', 'examples', 'drives', '*.drive')
 
 
 def check(name, got, expected):
@@ -227,7 +231,7 @@ def edge_drives():
               ((0, 0, 33), expected))
     check('every rule has a whole edge drive',
           sorted(bit for bit, whole in reached if whole and bit != 'exceeded'),
-          list(range(21)))
+          list(range(reference.RULES)))
 
 
 def line_sides():
@@ -257,6 +261,41 @@ def whole_drives():
           b'samples 5400\nbroken 00000000\nverdict exceeded\n')
 
 
+def recorded(path):
+    """The drive in a file of sample records."""
+    with open(path, 'rb') as file:
+        data = file.read()
+    return [reference.decode_sample(data[k:k + 16]) for k in range(0, len(data), 16)]
+
+
+def steady(drive):
+    """The first and the last altitude differ by at most 100 m."""
+    return not drive or abs(drive[-1].altitude - drive[0].altitude) <= 100
+
+
+def altitudes():
+    """No drive is made whose start and finish differ by more than 100 m, so that
+    each tests its own rule alone; rule 14's drives are no exception."""
+    edges = drives.all_edges()
+    check('edge drives start and finish within 100 m',
+          [edge.name for edge in edges if not (steady(edge.kept) and steady(edge.broken))], [])
+    whole = [make(n) for make in (drives.clean_drive, drives.exceeded_drive)
+             for n in (5399, 5400, 7200, 7201)]
+    check('whole drives start and finish within 100 m',
+          [len(d) for d in whole if not steady(d)], [])
+    examples = sorted(glob.glob(EXAMPLES))
+    check('example drives start and finish within 100 m',
+          (len(examples) > 0, [p for p in examples if not steady(recorded(p))]), (True, []))
+    # with a verdict after every sample too: up to any sample but those above 1300 m
+    rng = random.Random(1)
+    some = [drives.random_drive(rng, n) for n in range(200)]
+    check('random drives start and finish within 100 m',
+          [len(d) for d in some if not steady(d)
+           or not all(steady([d[0], s]) for s in d if s.altitude <= 1300)], [])
+    check('random drives reach altitudes -500, 1300, 1301',
+          {-500, 1300, 1301} - {s.altitude for d in some for s in d}, set())
+
+
 # --- What the lists reach ----------------------------------------------------
 
 def random_lists():
@@ -264,7 +303,7 @@ def random_lists():
     lists = [generate.random_list(rng) for _ in range(2000)]
     lists += generate.named_lists().values()
     reached = generate.coverage(lists)
-    wanted = [(kind, 0) for kind in ('clear', 'declare', 'sample', 'close', 'read', 'verdict')]
+    wanted = [(kind, 0) for kind in reference.KINDS]
     wanted += [('sample', k) for k in (1, 2, 3, 4)] + [('close', 2)]
     wanted += [('declare', k) for k in (1, 2, 6, 7, 8)] + [('read', 9), ('read', 10)]
     wanted += [(f, 'positive') for f in range(6)] + [(f, 'negative') for f in range(1, 6)]
@@ -315,6 +354,7 @@ def main():
     edge_drives()
     line_sides()
     whole_drives()
+    altitudes()
     random_lists()
     tally_cases()
     small_drives()

@@ -7,7 +7,7 @@ compare.py --files FOLDER: writes the list that `rt check` runs the program on,
 and what it must write, as the files stdin and stdout of the folder.
 
 A call is a kind, a length and as many bytes; an answer is nine bytes: what it
-is, then its numbers, little-endian (crates/replay/specs).
+is, then its numbers, little-endian (crates/replay/specs, crates/answers/specs).
 """
 
 import os
@@ -23,7 +23,6 @@ import drives  # noqa: E402
 import generate  # noqa: E402
 import reference  # noqa: E402
 
-KINDS = ('clear', 'declare', 'sample', 'close', 'read', 'verdict')
 CLEAR = (('clear',), ('number', 0))
 ROOM = 131072 // 9    # answers that the program has room for
 
@@ -34,7 +33,7 @@ def call_bytes(call):
         record = call[1]
     if call[0] == 'read':
         record = struct.pack('<I', call[1])
-    return bytes([KINDS.index(call[0]), len(record)]) + record
+    return bytes([reference.KINDS.index(call[0]), len(record)]) + record
 
 
 def answer_bytes(answer):
@@ -83,10 +82,10 @@ def main():
     program = os.path.abspath(sys.argv[1])
     passed = failed = 0
 
-    def compared(name, script, expected):
+    def compared(name, script, expected, error=b''):
         nonlocal passed, failed
         done = subprocess.run([program], input=script, capture_output=True, timeout=60)
-        if (done.stdout, done.stderr, done.returncode) == (expected, b'', 0):
+        if (done.stdout, done.stderr, done.returncode) == (expected, error, 0):
             passed += 1
         else:
             failed += 1
@@ -95,11 +94,13 @@ def main():
     for name, calls, answers in lists():
         script, expected = script_of(calls), answers_of(answers)
         compared(name, script, expected)
-    # what is left of a call at the end is no call; a kind above 5 is a verdict; past the room no call is made
+    # what is left of a call at the end is no call; at an unknown kind the script ends; past the room no call is made
     script, expected = script_of(calls), answers_of(answers)
     for extra in (b'\x00', b'\x02\x10' + bytes(15), b'\x05\x01'):
         compared('%d bytes of a call' % len(extra), script + extra, expected)
-    compared('kind 200', script_of([CLEAR[0]]) + b'\xc8\x00', answers_of([CLEAR[1], reference.Trip().verdict()]))
+    unknown = b'vectors: the script ends at a call of an unknown kind\n'
+    for kind in (len(reference.KINDS), 200, 255):
+        compared('kind %d' % kind, script + bytes([kind, 4, 0, 0, 0, 0]) + script_of([('verdict',), CLEAR[0]]), expected, unknown)
     compared('nothing', b'', b'')
     compared('more calls than room', script_of([CLEAR[0]] * (ROOM + 9)), answers_of([CLEAR[1]] * ROOM))
     print('%d passed, %d failed' % (passed, failed))

@@ -13,14 +13,31 @@ use Rattle.model.specs.Numbers.{leAt}
 use Rattle.model.specs.Records.{recordLength, maxSamples, maxWindows, sampleOf, inRange, windowOf, layoutKept}
 use Rattle.model.specs.Windows.{reading}
 use Rattle.model.specs.Refusals.{unless, sampleRefusals, declareRefusals, closeRefusals, readRefusals}
-use Rattle.model.specs.Trip.{Trip, declare, sample, close, closed, read, verdict, number, refused, refuse, accept, outcome, moveCount, withSample, withWindow, windowAt, told}
-use Rattle.calls.specs.Area.{areaLen, partsOf, Stands}
+use Rattle.model.specs.Trip.{Trip, clear, declare, sample, close, closed, read, verdict, recordOf, number, refused, refuse, accept, outcome, moveCount, withSample, withWindow, windowAt, told}
+use Rattle.area.specs.Layout.{areaLen, partsOf, sampleCount, closedMark, windowCount}
+use Rattle.area.specs.Stands.{Stands}
 use Rattle.calls.specs.Step.{Step}
-use Rattle.calls.proofs.Laws.{refused-step, marked, unmarked}
+use Rattle.calls.proofs.Laws.{unlent, whole-lent, refused-step, marked, unmarked}
 
-module _ (s r : List ℕ) (whole : length r ≡ recordLength) (free : partsOf s .mark ≡ 0) where
+-- the calls that are not clear
+pub declare-other : {r : List ℕ} → declare r ≡ clear → ⊥
+declare-other e = let z : _≡_ {A = ℕ} 0 1 = cc in omega arith
+
+pub sample-other : {r : List ℕ} → sample r ≡ clear → ⊥
+sample-other e = let z : _≡_ {A = ℕ} 0 1 = cc in omega arith
+
+pub close-other : close ≡ clear → ⊥
+close-other e = let z : _≡_ {A = ℕ} 0 1 = cc in omega arith
+
+pub read-other : {k : ℕ} → read k ≡ clear → ⊥
+read-other e = let z : _≡_ {A = ℕ} 0 1 = cc in omega arith
+
+pub verdict-other : verdict ≡ clear → ⊥
+verdict-other e = let z : _≡_ {A = ℕ} 0 1 = cc in omega arith
+
+module _ (s r : List ℕ) (whole : length r ≡ recordLength) (free : closedMark (partsOf s) ≡ 0) where
   -- what is left to test of a sample whose turn it is, on a trip that the area stands for
-  pub sample-left : partsOf s .samples < maxSamples → leAt 2 r 0 ≡ partsOf s .samples → (t : Trip) → Stands s t
+  pub sample-left : sampleCount (partsOf s) < maxSamples → leAt 2 r 0 ≡ sampleCount (partsOf s) → (t : Trip) → Stands s t
       → outcome t (sample r) ≡ cond (not (inRange (sampleOf r))) (refuse 4) (accept (number (pos (moveCount (withSample t (sampleOf r))))) (withSample t (sampleOf r)))
   unfolding outcome unless sampleRefusals sampleOf
   sample-left room turn t st = simp (
@@ -31,7 +48,7 @@ module _ (s r : List ℕ) (whole : length r ≡ recordLength) (free : partsOf s 
   )
 
   -- and of a window record, where there is room for it
-  pub declare-left : partsOf s .samples ≡ 0 → partsOf s .windows < maxWindows → (t : Trip) → Stands s t
+  pub declare-left : sampleCount (partsOf s) ≡ 0 → windowCount (partsOf s) < maxWindows → (t : Trip) → Stands s t
       → outcome t (declare r) ≡ cond (not (layoutKept r)) (refuse 6) (accept (number (pos (length (t .windows)))) (withWindow t (windowOf r)))
   unfolding outcome unless declareRefusals
   declare-left early room t st = simp (
@@ -44,18 +61,19 @@ module _ (s r : List ℕ) (whole : length r ≡ recordLength) (free : partsOf s 
 module _ {s r : List ℕ} (size : length s ≡ areaLen) where
   pub sample-short : (length r ≡ recordLength → ⊥) → Step (sample r) s (refused 1) s
   unfolding outcome unless sampleRefusals
-  sample-short n = refused-step (sample r) s 1 (lit< tt) size (λ _ _. refl) tt (λ t st. simp (ne-eqb (length r) recordLength n))
+  sample-short n = refused-step (sample r) sample-other s size 1 (lit< tt) (λ _ _ _ _. refl) (λ t st. simp (ne-eqb (length r) recordLength n))
 
   pub declare-short : (length r ≡ recordLength → ⊥) → Step (declare r) s (refused 1) s
   unfolding outcome unless declareRefusals
-  declare-short n = refused-step (declare r) s 1 (lit< tt) size (λ _ _. refl) tt (λ t st. simp (ne-eqb (length r) recordLength n))
+  declare-short n = refused-step (declare r) declare-other s size 1 (lit< tt) (λ _ _ _ _. refl) (λ t st. simp (ne-eqb (length r) recordLength n))
 
   module _ (whole : length r ≡ recordLength) where
     -- a refusal of a sample, where the record has its length
     sample-refused : (k : ℕ) → 0 < k → ((t : Trip) → Stands s t → outcome t (sample r) ≡ refuse k) → Step (sample r) s (refused k) s
-    sample-refused k p g = refused-step (sample r) s k p size (λ _ n. absurd (n whole)) tt g
+    unfolding recordOf
+    sample-refused k p g = refused-step (sample r) sample-other s size k p (whole-lent (sample r) s (refused k) r refl whole) g
 
-    pub sample-closed : (partsOf s .mark ≡ 0 → ⊥) → Step (sample r) s (refused 2) s
+    pub sample-closed : (closedMark (partsOf s) ≡ 0 → ⊥) → Step (sample r) s (refused 2) s
     unfolding outcome unless sampleRefusals
     sample-closed m =
         sample-refused 2 (lit< tt)
@@ -64,8 +82,8 @@ module _ {s r : List ℕ} (size : length s ≡ areaLen) where
     pub sample-damaged : (k : ℕ) → 0 < k → ((t : Trip) → Stands s t → ⊥) → Step (sample r) s (refused k) s
     sample-damaged k p g = sample-refused k p (λ t st. absurd (g t st))
 
-    module _ (free : partsOf s .mark ≡ 0) where
-      pub sample-full : maxSamples ≤ partsOf s .samples → Step (sample r) s (refused 5) s
+    module _ (free : closedMark (partsOf s) ≡ 0) where
+      pub sample-full : maxSamples ≤ sampleCount (partsOf s) → Step (sample r) s (refused 5) s
       unfolding outcome unless sampleRefusals
       sample-full f =
           sample-refused 5 (lit< tt)
@@ -75,8 +93,8 @@ module _ {s r : List ℕ} (size : length s ≡ areaLen) where
             le-leb maxSamples (length (t .samples)) (omega (arith, st .holds .samples)),
           ))
 
-      module _ (room : partsOf s .samples < maxSamples) where
-        pub sample-turn : (leAt 2 r 0 ≡ partsOf s .samples → ⊥) → Step (sample r) s (refused 3) s
+      module _ (room : sampleCount (partsOf s) < maxSamples) where
+        pub sample-turn : (leAt 2 r 0 ≡ sampleCount (partsOf s) → ⊥) → Step (sample r) s (refused 3) s
         unfolding outcome unless sampleRefusals sampleOf
         sample-turn n =
             sample-refused 3 (lit< tt)
@@ -87,22 +105,23 @@ module _ {s r : List ℕ} (size : length s ≡ areaLen) where
               ne-eqb (leAt 2 r 0) (length (t .samples)) (λ e. n (e ∙ sym (st .holds .samples))),
             ))
 
-        module _ (turn : leAt 2 r 0 ≡ partsOf s .samples) where
+        module _ (turn : leAt 2 r 0 ≡ sampleCount (partsOf s)) where
           pub sample-range : inRange (sampleOf r) ≡ false → Step (sample r) s (refused 4) s
           sample-range g = sample-refused 4 (lit< tt) (λ t st. rw (sample-left s r whole free room turn t st, g))
 
     -- a refusal of a declare, where the record has its length
     declare-refused : (k : ℕ) → 0 < k → ((t : Trip) → Stands s t → outcome t (declare r) ≡ refuse k) → Step (declare r) s (refused k) s
-    declare-refused k p g = refused-step (declare r) s k p size (λ _ n. absurd (n whole)) tt g
+    unfolding recordOf
+    declare-refused k p g = refused-step (declare r) declare-other s size k p (whole-lent (declare r) s (refused k) r refl whole) g
 
-    pub declare-closed : (partsOf s .mark ≡ 0 → ⊥) → Step (declare r) s (refused 2) s
+    pub declare-closed : (closedMark (partsOf s) ≡ 0 → ⊥) → Step (declare r) s (refused 2) s
     unfolding outcome unless declareRefusals
     declare-closed m =
         declare-refused 2 (lit< tt)
         (λ t st. simp (eq-eqb (length r) recordLength whole, marked (t .closed) (λ z. m (st .holds .mark ∙ z))))
 
-    module _ (free : partsOf s .mark ≡ 0) where
-      pub declare-late : 0 < partsOf s .samples → Step (declare r) s (refused 7) s
+    module _ (free : closedMark (partsOf s) ≡ 0) where
+      pub declare-late : 0 < sampleCount (partsOf s) → Step (declare r) s (refused 7) s
       unfolding outcome unless declareRefusals
       declare-late f =
           declare-refused 7 (lit< tt)
@@ -112,8 +131,8 @@ module _ {s r : List ℕ} (size : length s ≡ areaLen) where
             lt-ltb 0 (length (t .samples)) (omega (arith, st .holds .samples)),
           ))
 
-      module _ (early : partsOf s .samples ≡ 0) where
-        pub declare-full : maxWindows ≤ partsOf s .windows → Step (declare r) s (refused 8) s
+      module _ (early : sampleCount (partsOf s) ≡ 0) where
+        pub declare-full : maxWindows ≤ windowCount (partsOf s) → Step (declare r) s (refused 8) s
         unfolding outcome unless declareRefusals
         declare-full f =
             declare-refused 8 (lit< tt)
@@ -124,29 +143,31 @@ module _ {s r : List ℕ} (size : length s ≡ areaLen) where
               le-leb maxWindows (length (t .windows)) (omega (arith, st .holds .windows)),
             ))
 
-        module _ (room : partsOf s .windows < maxWindows) where
+        module _ (room : windowCount (partsOf s) < maxWindows) where
           pub declare-layout : layoutKept r ≡ false → Step (declare r) s (refused 6) s
           declare-layout g = declare-refused 6 (lit< tt) (λ t st. rw (declare-left s r whole free early room t st, g))
 
 module _ {s : List ℕ} (size : length s ≡ areaLen) where
-  pub close-closed : (partsOf s .mark ≡ 0 → ⊥) → Step close s (refused 2) s
-  unfolding outcome unless closeRefusals
-  close-closed m = refused-step close s 2 (lit< tt) size tt tt (λ t st. simp (marked (t .closed) (λ z. m (st .holds .mark ∙ z))))
+  pub close-closed : (closedMark (partsOf s) ≡ 0 → ⊥) → Step close s (refused 2) s
+  unfolding outcome unless closeRefusals recordOf
+  close-closed m = refused-step close close-other s size 2 (lit< tt) (unlent close s (refused 2) refl) (λ t st. simp (marked (t .closed) (λ z. m (st .holds .mark ∙ z))))
 
-  pub close-left : partsOf s .mark ≡ 0 → (t : Trip) → Stands s t → outcome t close ≡ accept (number (pos 0)) (closed t)
+  pub close-left : closedMark (partsOf s) ≡ 0 → (t : Trip) → Stands s t → outcome t close ≡ accept (number (pos 0)) (closed t)
   unfolding outcome unless closeRefusals
   close-left free t st = simp (unmarked (t .closed) (sym (st .holds .mark) ∙ free))
 
-  pub read-none : (k : ℕ) → partsOf s .windows ≤ k → Step (read k) s (refused 9) s
-  unfolding outcome unless readRefusals
-  read-none k h = refused-step (read k) s 9 (lit< tt) size tt tt (λ t st. simp (le-leb (length (t .windows)) k (omega (arith, st .holds .windows))))
+  pub read-none : (k : ℕ) → windowCount (partsOf s) ≤ k → Step (read k) s (refused 9) s
+  unfolding outcome unless readRefusals recordOf
+  read-none k h = refused-step (read k) read-other s size 9 (lit< tt) (unlent (read k) s (refused 9) refl) (λ t st. simp (le-leb (length (t .windows)) k (omega (arith, st .holds .windows))))
 
-  pub read-left : (k : ℕ) → k < partsOf s .windows → (t : Trip) → Stands s t → outcome t (read k) ≡ told t (reading (windowAt t k) (t .samples))
+  pub read-left : (k : ℕ) → k < windowCount (partsOf s) → (t : Trip) → Stands s t → outcome t (read k) ≡ told t (reading (windowAt t k) (t .samples))
   unfolding outcome unless readRefusals
   read-left k h t st = simp (lt-leb (length (t .windows)) k (omega (arith, st .holds .windows)))
 
   pub read-damaged : (k j : ℕ) → 0 < j → ((t : Trip) → Stands s t → ⊥) → Step (read k) s (refused j) s
-  read-damaged k j p g = refused-step (read k) s j p size tt tt (λ t st. absurd (g t st))
+  unfolding recordOf
+  read-damaged k j p g = refused-step (read k) read-other s size j p (unlent (read k) s (refused j) refl) (λ t st. absurd (g t st))
 
   pub verdict-damaged : (j : ℕ) → 0 < j → ((t : Trip) → Stands s t → ⊥) → Step verdict s (refused j) s
-  verdict-damaged j p g = refused-step verdict s j p size tt tt (λ t st. absurd (g t st))
+  unfolding recordOf
+  verdict-damaged j p g = refused-step verdict verdict-other s size j p (unlent verdict s (refused j) refl) (λ t st. absurd (g t st))

@@ -1,5 +1,2 @@
-pub mod Area
-pub mod Parts
-pub mod Effects
 pub mod Step
 pub mod Trace

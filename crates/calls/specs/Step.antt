@@ -1,30 +1,22 @@
 -- What each call promises, and lists of calls.
 use mathlib.Core.List.{List, [], _∷_}
+use mathlib.Core.Option.{some}
 use mathlib.Core.Path.{_≡_}
 use Prim.Native.Nat.{ℕ, _<_}
 use lib.IntN.{pos}
 use lib.ListN.{length}
 use Rattle.model.specs.Records.{recordLength}
-use Rattle.model.specs.Trip.{Trip, empty, Call, clear, declare, sample, close, read, verdict, Answer, number, refused, answer, next}
-use Rattle.calls.specs.Area.{areaLen, Stands}
+use Rattle.model.specs.Trip.{Trip, empty, Call, clear, recordOf, Answer, number, refused, answer, next}
+use Rattle.area.specs.Layout.{areaLen}
+use Rattle.area.specs.Stands.{Stands}
 
--- what clear does besides: it makes an area of any bytes fresh
-abbrev pub Fresh : Call → List ℕ → Answer → List ℕ → Type 0
-Fresh clear s a s′ = length s ≡ areaLen → (a ≡ number (pos 0)) × Stands s′ empty
-Fresh (declare r) s a s′ = Unit
-Fresh (sample r) s a s′ = Unit
-Fresh close s a s′ = Unit
-Fresh (read k) s a s′ = Unit
-Fresh verdict s a s′ = Unit
-
--- a record of another length is refused with 1, whatever the area holds
+-- the call's record, if it has one: of another length it is refused with 1, whatever the area holds
 abbrev pub Sized : Call → List ℕ → Answer → Type 0
-Sized clear s a = Unit
-Sized (declare r) s a = length s ≡ areaLen → (length r ≡ recordLength → ⊥) → a ≡ refused 1
-Sized (sample r) s a = length s ≡ areaLen → (length r ≡ recordLength → ⊥) → a ≡ refused 1
-Sized close s a = Unit
-Sized (read k) s a = Unit
-Sized verdict s a = Unit
+Sized c s a = (r : List ℕ) → recordOf c ≡ some r → length s ≡ areaLen → (length r ≡ recordLength → ⊥) → a ≡ refused 1
+
+-- if the call is clear: it makes an area of any bytes fresh
+abbrev pub Fresh : Call → List ℕ → Answer → List ℕ → Type 0
+Fresh c s a s′ = c ≡ clear → length s ≡ areaLen → (a ≡ number (pos 0)) × Stands s′ empty
 
 -- what one call promises: area s before, answer a, area s′ after
 pub record Step (c : Call) (s : List ℕ) (a : Answer) (s′ : List ℕ) : Type 0 where

@@ -9,11 +9,12 @@ use Rattle.model.specs.Numbers.{total}
 use Rattle.model.specs.Windows.{keepsEntries, entries, held, moves}
 use Rattle.model.specs.Trip.{Trip, empty, Call, clear, Answer, outcome, said, left, answers, after, next, windowAt}
 use Rattle.slide.specs.Held.{held-rising}
-use Rattle.slide.specs.Lists.{Rising}
+use Rattle.laws.specs.Lists.{Rising}
 use Rattle.slide.specs.Moves.{counted-moves, moves-counted}
 use Rattle.slots.specs.Layout.{movesOf}
-use Rattle.slots.specs.Lists.{listOf}
-use Rattle.calls.specs.Area.{areaLen, partsOf, Stands}
+use Rattle.lists.specs.Lists.{listOf}
+use Rattle.area.specs.Layout.{areaLen, partsOf, slotsIn}
+use Rattle.area.specs.Stands.{Stands}
 use Rattle.calls.specs.Step.{Run, done, call, aside}
 
 -- of a list of calls from a fresh area: the answers `given` and the area `s` that it leaves
@@ -21,11 +22,11 @@ pub record Claim (cs : List Call) (given : List Answer) (s : List ℕ) : Type 0 
   -- each call answers what the reference model, fed the same list, answers
   pub answered : given ≡ answers empty cs
   -- the moves counted in the area are 2 × entries − held of the model's lists
-  pub counted : movesOf (partsOf s .slots) ≡ moves (after empty cs .windows) (after empty cs .samples)
+  pub counted : movesOf (slotsIn (partsOf s)) ≡ moves (after empty cs .windows) (after empty cs .samples)
   -- the list that the area keeps for a window of function 2 or 3 is exactly the entries held there, each once
   pub lists :
       (k : ℕ) → k < length (after empty cs .windows) → keepsEntries (windowAt (after empty cs) k .function) ≡ true
-      → (listOf (partsOf s .slots) k ≡ held (windowAt (after empty cs) k) (after empty cs .samples)) × Rising (listOf (partsOf s .slots) k)
+      → (listOf (slotsIn (partsOf s)) k ≡ held (windowAt (after empty cs) k) (after empty cs .samples)) × Rising (listOf (slotsIn (partsOf s)) k)
 
 -- a run from an area that stands for a trip answers what the model answers, and leaves an area that stands for the model's last trip
 pub runs : {s s′ : List ℕ} {cs : List Call} {given : List Answer} → Run s cs given s′ → (t : Trip) → Stands s t
@@ -40,17 +41,17 @@ runs (aside view lent lent′ wrong step run) t st = runs run t (rw (step .kept 
 
 -- what an area that stands for a trip says of the moves and the lists
 pub kept : (s : List ℕ) (t : Trip) → Stands s t
-    → (movesOf (partsOf s .slots) ≡ moves (t .windows) (t .samples))
-    × ((k : ℕ) → k < length (t .windows) → listOf (partsOf s .slots) k ≡ held (windowAt t k) (t .samples))
+    → (movesOf (slotsIn (partsOf s)) ≡ moves (t .windows) (t .samples))
+    × ((k : ℕ) → k < length (t .windows) → listOf (slotsIn (partsOf s)) k ≡ held (windowAt t k) (t .samples))
 unfolding windowAt
-kept s t st = (counted-moves (movesOf (partsOf s .slots)) (t .windows) (t .samples) (st .holds .slots .moves), λ k h. st .holds .slots .slots k h .list)
+kept s t st = (counted-moves (movesOf (slotsIn (partsOf s))) (t .windows) (t .samples) (st .holds .slots .moves), λ k h. st .holds .slots .slots k h .list)
 
 -- an accepted clear makes any area of the right length stand for the empty trip, and the rest of the list goes on from there
 pub fresh-runs : {s s′ : List ℕ} {cs : List Call} {given : List Answer} → length s ≡ areaLen → Run s (clear ∷ cs) given s′
     → (given ≡ answers empty (clear ∷ cs)) × Stands s′ (after empty (clear ∷ cs))
 unfolding answers after outcome said left
 fresh-runs size (call step run) =
-    let one = step .fresh size in
+    let one = step .fresh refl size in
     let rest = runs run empty (one .1) in
     (cc, rest .1)
 fresh-runs size (aside view lent lent′ wrong step run) =
@@ -69,7 +70,7 @@ every-list {s} {s′} {cs} {given} size run =
 
 -- at most two moves for each entry
 pub few-moves : {s s′ : List ℕ} {cs : List Call} {given : List Answer} → length s ≡ areaLen → Run s (clear ∷ cs) given s′
-    → movesOf (partsOf s′ .slots) ≤ 2 * total (λ w. length (entries w (after empty (clear ∷ cs) .samples))) (after empty (clear ∷ cs) .windows)
+    → movesOf (slotsIn (partsOf s′)) ≤ 2 * total (λ w. length (entries w (after empty (clear ∷ cs) .samples))) (after empty (clear ∷ cs) .windows)
 few-moves {cs = cs} size run =
     let t : Trip = after empty (clear ∷ cs) in
     omega (arith, every-list size run .counted, moves-counted (t .windows) (t .samples))

@@ -11,7 +11,7 @@ use lib.Signed.{mag, ltZ, nonNeg}
 use mir.Syntax.{Width, w64}
 use mir.Val.{Fits, SFits, ofZ, toZ}
 use mir.ValLaws.{toZ-pos, toZ-ofZ}
-use Rattle.field.specs.Twos.{twos, unsigned}
+use Rattle.field.specs.Twos.{twos, complement}
 
 never : true ≡ false → ⊥
 never h = let z : _≡_ {A = ℕ} 0 1 = cc in omega arith
@@ -25,28 +25,28 @@ up-one (suc n) = ap negsuc (omega arith)
 
 -- of a v below zero: its complement, which is a u64, and the bits that the complement's distance from the top gives
 module _ (v : ℤ) (f : SFits w64 v) (h : ltZ v (pos 0) ≡ true) where
-  complement : (z : ℤ) → z ≡ v → negsuc 0 -ℤ z ≡ pos (mag z)
-  complement (pos n) e = absurd (omega (arith, ltb-true n 0 (ap (λ (y : ℤ). ltZ y (pos 0)) e ∙ h)))
-  complement (negsuc n) e = down-one n
+  flipped : (z : ℤ) → z ≡ v → negsuc 0 -ℤ z ≡ pos (mag z)
+  flipped (pos n) e = absurd (omega (arith, ltb-true n 0 (ap (λ (y : ℤ). ltZ y (pos 0)) e ∙ h)))
+  flipped (negsuc n) e = down-one n
 
   pub flip-fits : SFits w64 (negsuc 0 -ℤ v)
-  flip-fits = rw (complement v refl) (record { sfits = f .sfits })
+  flip-fits = rw (flipped v refl) (record { sfits = f .sfits })
 
   pub flip : toZ w64 (ofZ w64 (negsuc 0 -ℤ v)) ≡ pos (mag v)
-  flip = rw (complement v refl) (toZ-pos w64 (mag v) (f .sfits))
+  flip = rw (flipped v refl) (toZ-pos w64 (mag v) (f .sfits))
 
-pub flip-bits : (v : ℤ) → SFits w64 v → ltZ v (pos 0) ≡ true → 0xffff_ffff_ffff_ffff - mag v ≡ unsigned 8 v
-flip-bits (pos n) f h = absurd (omega (arith, ltb-true n 0 h))
-flip-bits (negsuc n) f h = omega arith
+pub flip-bits : (v : ℤ) (most : ℕ) → ltZ v (pos 0) ≡ true → most - mag v ≡ complement most v
+flip-bits (pos n) most h = absurd (omega (arith, ltb-true n 0 h))
+flip-bits (negsuc n) most h = refl
 
 -- of a v from zero on
 pub keep : (v : ℤ) → SFits w64 v → ltZ v (pos 0) ≡ false → T (nonNeg v) × Fits w64 (natAbs v)
 keep (pos n) f h = (tt, record { fits = omega (arith, f .sfits) })
 keep (negsuc n) f h = absurd (never h)
 
-pub keep-bits : (v : ℤ) → ltZ v (pos 0) ≡ false → natAbs v ≡ unsigned 8 v
-keep-bits (pos n) h = refl
-keep-bits (negsuc n) h = absurd (never h)
+pub keep-bits : (v : ℤ) (most : ℕ) → ltZ v (pos 0) ≡ false → natAbs v ≡ complement most v
+keep-bits (pos n) most h = refl
+keep-bits (negsuc n) most h = absurd (never h)
 
 -- of bits below half, and from half on
 pub low-bits : (half x : ℕ) → half ≤ 2 ^ 63 → x < half → toZ w64 x ≡ twos half x

@@ -12,7 +12,8 @@ use Rattle.field.specs.Part.{put}
 use Rattle.field.specs.Le.{putLe, le-suc}
 
 -- from the highest byte down: the number of the bytes that were passed
-pub le-down : (n : ℕ) (xs : List ℕ) (a i v : ℕ) → 0 < i → i ≤ n → a + n ≤ length xs → v ≡ leAt (n - i) xs (a + i) → v * 256 + getD xs (a + (i - 1)) 0 ≡ leAt (n - (i - 1)) xs (a + (i - 1))
+pub le-down : (n : ℕ) (xs : List ℕ) (a i v : ℕ) → 0 < i → i ≤ n → a + n ≤ length xs → v ≡ leAt (n - i) xs (a + i)
+    → v * 256 + getD xs (a + (i - 1)) 0 ≡ leAt (n - (i - 1)) xs (a + (i - 1))
 le-down n xs a i v z h k p =
     let l : a + (i - 1) < length xs = omega arith in
     let m : n - (i - 1) ≡ suc (n - i) = omega arith in

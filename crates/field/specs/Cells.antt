@@ -1,5 +1,5 @@
 -- An array of n cells of w bytes each, from the start of a list: `cells w f xs n` is the list of f of each cell's bytes, for any f. Numbers of w bytes
--- are `cells w leVal`, records `cells 16 f`. Each law once, over w and f. Assumes nothing.
+-- are `cells w leVal`, records `cells recordLength f`. Each law once, over w and f. Assumes nothing.
 use mathlib.Core.Path.{_≡_, refl, sym, ap, _∙_}
 use mathlib.Core.List.{List, [], _∷_, _++_}
 use mathlib.Core.Logic.{_≢_}
@@ -35,7 +35,8 @@ module _ {A : Type 0} (w : ℕ) (f : List ℕ → A) where
   cells-at xs zero i d h = absurd (omega arith)
   cells-at xs (suc n) i d h = by (λ k. cells-at xs n i d k) (decLt i n)
     where
-      by : (i < n → getD (cells w f xs n) i d ≡ f (part xs (w * i) w)) → Dec (i < n) → getD (cells w f xs n ++ (f (part xs (w * n) w) ∷ [])) i d ≡ f (part xs (w * i) w)
+      by : (i < n → getD (cells w f xs n) i d ≡ f (part xs (w * i) w)) → Dec (i < n)
+          → getD (cells w f xs n ++ (f (part xs (w * n) w) ∷ [])) i d ≡ f (part xs (w * i) w)
       by r (yes k) = List·getD-append (cells w f xs n) _ d i (rw cells-length k) ∙ r k
       by r (no k) =
           let e : n ≡ i = omega arith in
@@ -50,14 +51,16 @@ module _ {A : Type 0} (w : ℕ) (f : List ℕ → A) where
       rw (cells-other xs n a ys (omega arith), part-before xs a ys (w * n) w r)
 
   -- a cell written after the n-th
-  pub cells-push : (xs : List ℕ) (n : ℕ) (ys : List ℕ) → w * n + w ≤ length xs → length ys ≡ w → cells w f (put xs (w * n) ys) (n + 1) ≡ cells w f xs n ++ (f ys ∷ [])
+  pub cells-push : (xs : List ℕ) (n : ℕ) (ys : List ℕ) → w * n + w ≤ length xs → length ys ≡ w
+      → cells w f (put xs (w * n) ys) (n + 1) ≡ cells w f xs n ++ (f ys ∷ [])
   unfolding cells
   cells-push xs n ys h l =
       let s : part (put xs (w * n) ys) (w * n) w ≡ ys = rw l at (part-same xs (w * n) ys (omega arith)) in
       rw (add-one n, cells-other xs n (w * n) ys (omega arith), s)
 
   -- a cell written among them
-  pub cells-set : (xs : List ℕ) (n i : ℕ) (ys : List ℕ) → i < n → w * n ≤ length xs → length ys ≡ w → cells w f (put xs (w * i) ys) n ≡ set (cells w f xs n) i (f ys)
+  pub cells-set : (xs : List ℕ) (n i : ℕ) (ys : List ℕ) → i < n → w * n ≤ length xs → length ys ≡ w
+      → cells w f (put xs (w * i) ys) n ≡ set (cells w f xs n) i (f ys)
   cells-set xs n i ys h r l =
       ext-getD (f ys) _ _ (cells-length (put xs (w * i) ys) n ∙ sym (length-set (cells w f xs n) i (f ys) ∙ cells-length xs n)) each
     where
@@ -71,7 +74,8 @@ module _ {A : Type 0} (w : ℕ) (f : List ℕ → A) where
           by (yes k) = λ p q. omega (arith, row w i j k)
           by (no k) = λ p q. omega (arith, row w j i (omega arith))
 
-      each : (j : ℕ) → j < length (cells w f (put xs (w * i) ys) n) → getD (cells w f (put xs (w * i) ys) n) j (f ys) ≡ getD (set (cells w f xs n) i (f ys)) j (f ys)
+      each : (j : ℕ) → j < length (cells w f (put xs (w * i) ys) n)
+          → getD (cells w f (put xs (w * i) ys) n) j (f ys) ≡ getD (set (cells w f xs n) i (f ys)) j (f ys)
       each j k = cells-at (put xs (w * i) ys) n j (f ys) k′ ∙ by (ℕ-discrete j i)
         where
           k′ : j < n
@@ -84,7 +88,8 @@ module _ {A : Type 0} (w : ℕ) (f : List ℕ → A) where
           by (no d) = ap f (other j d) ∙ sym (getD-set-other (cells w f xs n) i j (f ys) (f ys) d ∙ cells-at xs n j (f ys) k′)
 
 -- a number of w bytes written after the n-th
-pub numbers-push : (w : ℕ) (xs : List ℕ) (n v : ℕ) → w * n + w ≤ length xs → v < 256 ^ w → cells w leVal (putLe w xs (w * n) v) (n + 1) ≡ cells w leVal xs n ++ (v ∷ [])
+pub numbers-push : (w : ℕ) (xs : List ℕ) (n v : ℕ) → w * n + w ≤ length xs → v < 256 ^ w
+    → cells w leVal (putLe w xs (w * n) v) (n + 1) ≡ cells w leVal xs n ++ (v ∷ [])
 unfolding putLe
 numbers-push w xs n v h k = cells-push w leVal xs n (leBytes w v) h (bytes-length w v) ∙ ap (λ (z : ℕ). cells w leVal xs n ++ (z ∷ [])) (val-bytes w v k)
 

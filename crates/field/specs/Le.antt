@@ -51,6 +51,10 @@ pub le-other : (n : ℕ) (xs : List ℕ) (a v m b : ℕ) → Apart a n b m → l
 unfolding leAt part
 le-other n xs a v m b o = ap leVal (part-le n xs a v b m o)
 
+-- the first of two fields that were written apart
+pub le-under : (m : ℕ) (xs : List ℕ) (a v n b w : ℕ) → a + m ≤ length xs → v < 256 ^ m → Apart b n a m → leAt m (putLe n (putLe m xs a v) b w) a ≡ v
+le-under m xs a v n b w h k o = le-other n (putLe m xs a v) b w m a o ∙ le-same m xs a v h k
+
 -- a field, after bytes apart from it were put
 pub le-put : (xs : List ℕ) (a : ℕ) (ys : List ℕ) (m b : ℕ) → Apart a (length ys) b m → leAt m (put xs a ys) b ≡ leAt m xs b
 unfolding leAt part

@@ -6,8 +6,9 @@ use Prim.Native.Nat.{ℕ, zero, suc, _+_, _-_, _≤_, _<_}
 use native.Mathlib.Nat.{add-suc, suc-add, add-zero, zero-add}
 use native.Mathlib.Decide.{decLe}
 use native.Mathlib.Omega.{arith}
-use lib.ListN.{length, take, drop, set, length-take, length-drop, take-append-drop}
-use lib.Seq.{sets, length-sets, sets-eq, take-set-le, drop-set-lt, take-take, drop-drop, drop-nil, take-nil, take-at, drop-at, length-take-le, take-all, drop-set-add, take-set-lt}
+use lib.ListN.{length, take, drop, set, length-take, length-drop}
+use lib.Seq.{sets, length-sets, sets-eq, take-set-le, drop-set-lt, take-take, drop-drop, drop-nil, take-nil}
+use lib.Seq.{take-at, drop-at, length-take-le, take-all, drop-set-add, take-set-lt}
 
 unfoldable pub part : List ℕ → ℕ → ℕ → List ℕ
 part xs a n = take n (drop a xs)
@@ -121,28 +122,3 @@ put-lent xs a n e ys p h l =
   where
     taken : (xs : List ℕ) (a n : ℕ) → a + n ≤ length xs → length (take n (drop a xs)) ≡ n
     taken xs a n h = simp (length-take, length-drop) (omega arith)
-
--- a put at a place within a part is a put of that part: what a field's put in the whole is to the part that the field is of
-take-other : (xs : List ℕ) (a : ℕ) (ys : List ℕ) (b : ℕ) → b ≤ a → take b (put xs a ys) ≡ take b xs
-unfolding put
-take-other xs a [] b h = refl
-take-other xs a (y ∷ ys) b h = take-other (set xs a y) (suc a) ys b (omega arith) ∙ take-set-le b xs a y h
-
-drop-other : (xs : List ℕ) (a : ℕ) (ys : List ℕ) (b : ℕ) → a + length ys ≤ b → drop b (put xs a ys) ≡ drop b xs
-unfolding put
-drop-other xs a [] b h = refl
-drop-other xs a (y ∷ ys) b h = drop-other (set xs a y) (suc a) ys b (omega arith) ∙ drop-set-lt b xs a y (omega arith)
-
-put-eq : (xs : List ℕ) (a : ℕ) (ys : List ℕ) → a + length ys ≤ length xs → put xs a ys ≡ take a xs ++ ys ++ drop (a + length ys) xs
-unfolding put
-put-eq xs a ys h = sets-eq ys xs a h
-
-pub put-in : (xs : List ℕ) (a n b : ℕ) (ys : List ℕ) → b + length ys ≤ n → a + n ≤ length xs → put xs (a + b) ys ≡ put xs a (put (part xs a n) b ys)
-unfolding part
-put-in xs a n b ys h k =
-    let zs : List ℕ = put xs (a + b) ys in
-    let lz : length zs ≡ length xs = put-length xs (a + b) ys in
-    let lp : length (take n (drop a zs)) ≡ n = simp (length-take, length-drop) (omega arith) in
-    sym (ap (put xs a) (sym (part-in xs a n b ys h))
-    ∙ put-eq xs a (take n (drop a zs)) (omega arith)
-    ∙ rw (lp, ← take-other xs (a + b) ys a (omega arith), ← drop-other xs (a + b) ys (a + n) (omega arith), append-assoc, ← drop-drop, take-append-drop, take-append-drop))

@@ -29,7 +29,8 @@ pub in-class : (c : SpeedClass) (s : Sample) → inClass c s ≡ sameClass c (cl
 unfolding inClass classOf sameClass
 in-class c s = by c (leb (speed s) 600) refl (leb (speed s) 900) refl
   where
-    by : (c : SpeedClass) (a : Bool) → leb (speed s) 600 ≡ a → (b : Bool) → leb (speed s) 900 ≡ b → inClass c s ≡ sameClass c (cond a Urban (cond b Rural Motorway))
+    by : (c : SpeedClass) (a : Bool) → leb (speed s) 600 ≡ a → (b : Bool) → leb (speed s) 900 ≡ b
+        → inClass c s ≡ sameClass c (cond a Urban (cond b Rural Motorway))
     by Urban true e b f = e
     by Urban false e true f = e
     by Urban false e false f = e

@@ -1,3 +1,4 @@
 pub mod Table
 pub mod Class
 pub mod Line
+pub mod Bounds

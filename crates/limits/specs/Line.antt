@@ -1,15 +1,25 @@
--- Which of the two percentile lines holds, and that the two sides of rules 18 to 20 are those of document 01. Assumes nothing.
+-- Which of the two percentile lines holds, that the two sides of rules 18 to 20 are those of document 01, and how large they get. Assumes nothing.
 use mathlib.Core.Path.{_≡_, refl}
 use mathlib.Core.Bool.{Bool, true, false, cond}
 use Prim.Native.Nat.{ℕ, zero, suc, _+_, _*_, _^_, _≤_, _<_}
 use native.Mathlib.Nat.{mul-le-mul}
 use native.Mathlib.Omega.{arith}
+use borrow.Author.Tests.{le-leb, lt-leb}
 use Rattle.model.specs.declared.SpeedClass.{SpeedClass}
+use Rattle.model.specs.Records.{maxSamples}
 use Rattle.model.specs.Rules.{slow, powerFactor, limitSide}
-use Rattle.limits.specs.Table.{lines, row, figure, factor, slope, intercept}
+use Rattle.limits.specs.Table.{mostDistance, mostFactor, mostSlope, mostIntercept, lines, row, figure, factor, slope, intercept}
 
 unfoldable pub lineOf : ℕ → ℕ → ℕ
 lineOf n s = cond (slow n s) 0 1
+
+pub line-low : (n s : ℕ) → s ≤ 746 * n → 0 ≡ lineOf n s
+unfolding lineOf slow
+line-low n s h = rw (le-leb s (746 * n) h)
+
+pub line-high : (n s : ℕ) → 746 * n < s → 1 ≡ lineOf n s
+unfolding lineOf slow
+line-high n s h = rw (lt-leb s (746 * n) h)
 
 -- what P95 × N × factor may not be above, on a line
 abbrev lineSide : SpeedClass → ℕ → ℕ → ℕ → ℕ
@@ -32,11 +42,15 @@ limit-side c n s = by (slow n s)
     by false = refl
 
 -- the largest coefficients
-pub most : (c : SpeedClass) (line : ℕ) → line < 2 → (factor c line ≤ 100000) × ((slope c line ≤ 742) × (intercept c line ≤ 1896600))
+pub most : (c : SpeedClass) (line : ℕ) → line < 2 → (factor c line ≤ mostFactor) × ((slope c line ≤ mostSlope) × (intercept c line ≤ mostIntercept))
 unfolding figure row lines
 most c zero h = (omega arith, (omega arith, omega arith))
 most c (suc zero) h = (omega arith, (omega arith, omega arith))
 most c (suc (suc line)) h = absurd (omega arith)
 
-pub side-most : {a b n s : ℕ} → a ≤ 742 → b ≤ 1896600 → (n ≤ 7201) × (s ≤ 21603000) → 2592 * (a * s + b * n) < 2 ^ 47
+-- no side of a limit is larger
+abbrev pub mostSide : ℕ
+mostSide = 2 ^ 47
+
+pub side-most : {a b n s : ℕ} → a ≤ mostSlope → b ≤ mostIntercept → (n ≤ maxSamples) × (s ≤ mostDistance) → 2592 * (a * s + b * n) < mostSide
 side-most h k w = omega (arith, mul-le-mul h (w .1), mul-le-mul k (w .0))

@@ -1,11 +1,12 @@
 // The figures of the classes and of the percentile lines: one table, and what is read off it.
 ghost use mathlib.Core.Path.{_≡_};
 ghost use Prim.Native.Nat.{_*_, _^_, _≤_, _<_};
-ghost use Rattle.model.specs.Records.{tenths, units, travelled};
+ghost use Rattle.model.specs.Records.{maxSamples, tenths, units, travelled};
 ghost use Rattle.model.specs.Rules.{powerFactor, limitSide};
+ghost use Rattle.limits.specs.Table.{mostDistance, mostFactor, mostSlope, mostIntercept};
 ghost use Rattle.limits.specs.Table.{figure, classIndex, upper, shareLow, shareHigh, factor, slope, intercept};
 ghost use Rattle.limits.specs.Class.{classOf};
-ghost use Rattle.limits.specs.Line.{lineOf};
+ghost use Rattle.limits.specs.Line.{lineOf, mostSide};
 use model::Distance;
 use model::Speed;
 use model::SpeedClass;
@@ -90,21 +91,21 @@ pub fn share_high(c: SpeedClass) -> u64
 // The coefficients of a percentile line of a class: factor × P95 × N against 2592 × (slope × S + intercept × N).
 pub fn factor(c: SpeedClass, line: usize) -> u64
     requires { ⌜ line < 2 ⌝ }
-    ensures { λ r. ⌜ (r ≡ factor c line) × (r ≤ 100000) ⌝ }
+    ensures { λ r. ⌜ (r ≡ factor c line) × (r ≤ mostFactor) ⌝ }
 {
     figure(c, 3 + 3 * line)
 }
 
 pub fn slope(c: SpeedClass, line: usize) -> u64
     requires { ⌜ line < 2 ⌝ }
-    ensures { λ r. ⌜ (r ≡ slope c line) × (r ≤ 742) ⌝ }
+    ensures { λ r. ⌜ (r ≡ slope c line) × (r ≤ mostSlope) ⌝ }
 {
     figure(c, 4 + 3 * line)
 }
 
 pub fn intercept(c: SpeedClass, line: usize) -> u64
     requires { ⌜ line < 2 ⌝ }
-    ensures { λ r. ⌜ (r ≡ intercept c line) × (r ≤ 1896600) ⌝ }
+    ensures { λ r. ⌜ (r ≡ intercept c line) × (r ≤ mostIntercept) ⌝ }
 {
     figure(c, 5 + 3 * line)
 }
@@ -125,7 +126,7 @@ pub fn class_of(v: Speed) -> SpeedClass
 
 // Line 0 up to a mean of 74.6 km/h, line 1 above it.
 fn line_of(samples: u64, distance: Distance) -> usize
-    requires { ⌜ samples ≤ 7201 ⌝ }
+    requires { ⌜ samples ≤ maxSamples ⌝ }
     ensures { λ r. ⌜ (r ≡ lineOf samples (units distance)) × (r < 2) ⌝ }
 {
     if distance.0 <= 746 * samples { 0 } else { 1 }
@@ -133,16 +134,16 @@ fn line_of(samples: u64, distance: Distance) -> usize
 
 // What P95 × N × power_factor may not be above.
 pub fn limit_side(c: SpeedClass, samples: u64, distance: Distance) -> u64
-    requires { ⌜ (samples ≤ 7201) × (units distance ≤ 21603000) ⌝ }
-    ensures { λ r. ⌜ (r ≡ limitSide samples (units distance)) × (r < 2 ^ 47) ⌝ }
+    requires { ⌜ (samples ≤ maxSamples) × (units distance ≤ mostDistance) ⌝ }
+    ensures { λ r. ⌜ (r ≡ limitSide samples (units distance)) × (r < mostSide) ⌝ }
 {
     let line = line_of(samples, distance);
     2592 * (slope(c, line) * distance.0 + intercept(c, line) * samples)
 }
 
 pub fn power_factor(c: SpeedClass, samples: u64, distance: Distance) -> u64
-    requires { ⌜ samples ≤ 7201 ⌝ }
-    ensures { λ r. ⌜ (r ≡ powerFactor samples (units distance)) × (r ≤ 100000) ⌝ }
+    requires { ⌜ samples ≤ maxSamples ⌝ }
+    ensures { λ r. ⌜ (r ≡ powerFactor samples (units distance)) × (r ≤ mostFactor) ⌝ }
 {
     factor(c, line_of(samples, distance))
 }

@@ -3,18 +3,17 @@ use mathlib.Core.Bool.{Bool, true, false}
 use mathlib.Core.List.{List, [], _∷_, _++_, map}
 use mathlib.Core.Option.{Option, some}
 use mathlib.Core.Path.{_≡_, refl}
-use Prim.Native.Nat.{ℕ, _+_, _-_}
+use Prim.Native.Nat.{ℕ, _-_}
 use lib.IntN.{ℤ, pos}
 use lib.ListN.{replicate}
 use Rattle.model.specs.declared.Sample.{Sample}
 use Rattle.model.specs.Numbers.{leVal, leAt, leBytes, signed, within, withinℤ, outside, floorDiv, all, range, sumℤ, filter, count, any, total, minus}
-use Rattle.model.specs.Records.{sampleOf, inRange, channels, channel, functions, windowOf, fieldsKept, layoutKept}
+use Rattle.model.specs.Records.{sampleOf, inRange, channels, channel, functions, windowOf, fieldsKept, layoutKept, recordAt}
 use Rattle.model.specs.Windows.{sampleAt, lookedAt, qualifies, qualifying, valueAt, values, fold, smallest, largest, average, enough, percentile, figure, reading, keepsEntries, entries, displaces, undisplaced, held, moves}
 use Rattle.model.specs.Rules.{inClass, samplesIn, distanceIn, distance, stopped, above100, above145, above160, temperatureFault, altitudeFault, speedAt, speedBefore, acceleration, accelerating, power, acceleratingIn, p95, tooShort, tooLong, shareOutside, tooNear, stopsOutside, urbanMeanOutside, tooFewAbove100, someAbove160, tooManyAbove145, someTemperatureFault, someAltitudeFault, tooFewAccelerating, slow, powerFactor, limitSide, beyondLimit, someBeyond, powerBeyond, rules}
 use Rattle.model.specs.Verdicts.{broken, mask, noxSum, exceedsLimit, exceeded, finding, verdictOf}
 use Rattle.model.specs.Refusals.{unless, sampleRefusals, declareRefusals, closeRefusals, readRefusals}
 use Rattle.model.specs.Trip.{Call, declare, sample, read, Answer, number, withSample, withWindow, windowAt, told, outcome, said, left, answers, empty}
-use Rattle.model.specs.Tallies.{recordAt}
 use Rattle.model.specs.Report.{ascii, digits, decimal, hexDigit, hexadecimal, findingText, acceptedText, refusedText, pieces, onOutcome, reportFrom, report}
 
 -- a sample record: second, speed, altitude as two bytes, the temperature 2931, flow, NOx, no CO2

@@ -25,6 +25,11 @@ leBytes (suc n) v = v % 256 ∷ leBytes n (v / 256)
 unfoldable pub signed : ℕ → ℕ → ℤ
 signed n v = cond (ltb v (2 ^ (8 * n - 1))) (pos v) (negsuc (2 ^ (8 * n) - suc v))
 
+-- the number whose n bytes mean z so
+abbrev pub unsigned : ℕ → ℤ → ℕ
+unsigned n (pos k) = k
+unsigned n (negsuc k) = 2 ^ (8 * n) - suc k
+
 abbrev pub minus : ℕ → ℤ
 minus n = negℤ (pos n)
 

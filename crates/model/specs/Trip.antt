@@ -6,9 +6,8 @@ use Prim.Native.Nat.{ℕ}
 use lib.IntN.{ℤ, pos}
 use lib.ListN.{length, getD}
 use Rattle.model.specs.declared.Sample.{Sample}
-use Rattle.model.specs.declared.Window.{Window}
 use Rattle.model.specs.declared.Verdict.{Verdict}
-use Rattle.model.specs.Records.{sampleOf, windowOf}
+use Rattle.model.specs.Records.{sampleOf, windowOf, Window}
 use Rattle.model.specs.Windows.{reading, moves}
 use Rattle.model.specs.Verdicts.{verdictOf}
 use Rattle.model.specs.Refusals.{unless, sampleRefusals, declareRefusals, closeRefusals, readRefusals}
@@ -31,6 +30,15 @@ pub data Call : Type 0 where
   close : Call
   read : ℕ → Call
   verdict : Call
+
+-- the record that a call lends, if it lends one
+unfoldable pub recordOf : Call → Option (List ℕ)
+recordOf clear = none
+recordOf (declare r) = some r
+recordOf (sample r) = some r
+recordOf close = none
+recordOf (read k) = none
+recordOf verdict = none
 
 -- "0, window numbers, readings, verdicts whole, refusals with their numbers, move counts"
 pub data Answer : Type 0 where

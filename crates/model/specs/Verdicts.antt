@@ -26,9 +26,16 @@ mask (b ∷ bs) = bit b + 2 * mask bs
 unfoldable pub noxSum : List Sample → ℤ
 noxSum ss = sumℤ (map (channel 6) ss)
 
+-- "1586 is the device's gas factor in millionths"; the limit of 80 mg/km beside it
+abbrev pub gasFactor : ℕ
+gasFactor = 1586
+
+abbrev pub noxLimit : ℕ
+noxLimit = 80000
+
 -- "Exceeded: 1586 × U > 80000 × D and D > 0"
 unfoldable pub exceedsLimit : ℤ → ℕ → Bool
-exceedsLimit u d = ltZ (pos (80000 * d)) (pos 1586 *ℤ u) && ltb 0 d
+exceedsLimit u d = ltZ (pos (noxLimit * d)) (pos gasFactor *ℤ u) && ltb 0 d
 
 unfoldable pub exceeded : List Sample → Bool
 exceeded ss = exceedsLimit (noxSum ss) (units (distance ss))

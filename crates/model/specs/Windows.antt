@@ -8,11 +8,10 @@ use lib.IntN.{ℤ, pos}
 use lib.ListN.{length, getD}
 use lib.Signed.{leZ}
 use Rattle.model.specs.declared.Sample.{Sample}
-use Rattle.model.specs.declared.Window.{Window}
 use Rattle.model.specs.declared.Function.{Function}
 use Rattle.model.specs.declared.Function.the-variants.{Count, Sum, Smallest, Largest, Average, Percentile}
 use Rattle.model.specs.Numbers.{withinℤ, floorDiv, range, sumℤ, filter, count, any, total}
-use Rattle.model.specs.Records.{channel, sampleOf}
+use Rattle.model.specs.Records.{channel, sampleOf, Window}
 
 -- the sample of second i; every use below has i among the samples
 unfoldable pub sampleAt : List Sample → ℕ → Sample

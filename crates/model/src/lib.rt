@@ -1,4 +1,31 @@
-// The types that code and definitions share. The definitions of document 01 are in specs/.
+// The types and figures that code and definitions share. The definitions of document 01 are in specs/.
+ghost use mathlib.Core.Path.{_≡_};
+ghost use Prim.Native.Nat.{_≤_};
+ghost use Rattle.model.specs.Numbers.{bit};
+
+// Bytes of a sample record and of a window record.
+pub const RECORD_LEN: usize = 16;
+
+// Bytes of a tally.
+pub const TALLY_LEN: usize = 104;
+
+// The most samples of a trip, of a block and of a tally.
+pub const MAX_SAMPLES: u32 = 7201;
+
+pub const MAX_WINDOWS: u32 = 16;
+
+// The widest window's samples.
+pub const MAX_WIDTH: u16 = 600;
+
+// No channel of a sample in range is beyond this, either way.
+pub const MAX_CHANNEL: u64 = 100_000_000;
+
+// 1 for a test that holds: what masks and counts are made of.
+pub fn bit(b: bool) -> u32
+    ensures { λ r. ⌜ (r ≡ bit b) × (r ≤ 1) ⌝ }
+{
+    if b { 1 } else { 0 }
+}
 
 // A speed in tenths of km/h.
 pub struct Speed(pub u16);
@@ -31,18 +58,6 @@ pub enum Function {
     Largest,
     Average,
     Percentile,
-}
-
-// A sliding window over the last `width` samples.
-pub struct Window {
-    pub function: Function,
-    // The channel whose values it reads.
-    pub channel: u8,
-    // A sample qualifies where this channel is within low to high.
-    pub condition: u8,
-    pub width: u16,
-    pub low: i32,
-    pub high: i32,
 }
 
 // The classes of Annex IIIA by the sample's own speed.

@@ -14,7 +14,7 @@ use Rattle.model.specs.Blocks.{Written, unwritten, wrote, tallied, joined}
 use Rattle.model.specs.Refusals.{Refusal, unless, tallyRefusals, joinRefusals}
 use Rattle.model.specs.Trip as model
 use Rattle.calls.specs.Step.{Step}
-use Rattle.tally.specs.Calls.{Wrote}
+use Rattle.tally_calls.specs.Calls.{Wrote}
 use Rattle.monitor.specs.declared.RdeAnswer.{RdeAnswer}
 use Rattle.monitor.specs.declared.RdeVerdictAnswer.{RdeVerdictAnswer}
 use Rattle.monitor.specs.Reply.{replyOf, verdictReplyOf, Numbered, NumberedVerdict, Told, Judged, Steps, Writes}

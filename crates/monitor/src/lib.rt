@@ -5,9 +5,8 @@ use model::VerdictAnswer;
 ghost use mathlib.Core.Path.{_≡_};
 ghost use lib.ListN.{length};
 ghost use Rattle.model.specs.Blocks.{tallied, joined};
-ghost use Rattle.model.specs.Numbers.{bit};
 ghost use Rattle.model.specs.Trip as model;
-ghost use Rattle.calls.specs.Area.{areaLen};
+ghost use Rattle.area.specs.Layout.{areaLen};
 ghost use Rattle.monitor.specs.Reply.{replyOf, judgedReplyOf, verdictReplyOf, Told, Judged, Writes, Steps};
 
 // An answer: refusal 0 is accepted, with the value; any other refusal has value 0.
@@ -41,12 +40,6 @@ fn reply(a: Answer) -> RdeAnswer
     }
 }
 
-fn number(b: bool) -> u32
-    ensures { λ r. ⌜ r ≡ bit b ⌝ }
-{
-    if b { 1 } else { 0 }
-}
-
 fn judged_reply(v: Verdict) -> RdeVerdictAnswer
     ensures { λ r. ⌜ r ≡ judgedReplyOf v ⌝ }
 {
@@ -54,8 +47,8 @@ fn judged_reply(v: Verdict) -> RdeVerdictAnswer
     RdeVerdictAnswer {
         refusal: 0,
         broken: v.broken,
-        exceeded: number(v.exceeded),
-        word: calls::finding_code(f),
+        exceeded: model::bit(v.exceeded),
+        word: verdict::finding_code(f),
     }
 }
 
@@ -78,7 +71,7 @@ fn verdict_reply(a: VerdictAnswer) -> RdeVerdictAnswer
 pub extern "C" fn rde_area_len() -> usize
     ensures { λ r. ⌜ r ≡ areaLen ⌝ }
 {
-    calls::AREA_LEN
+    area::AREA_LEN
 }
 
 // Makes the area fresh.
@@ -134,7 +127,7 @@ pub extern "C" fn rde_verdict(area: &[u8]) -> RdeVerdictAnswer
 pub extern "C" fn rde_tally(block: &[u8], out: &mut [u8]) -> RdeAnswer
     ensures { λ r. ⌜ Told (Writes (tallied (now (block .entry)) (length (now (out .entry)))) (now (out .entry)) (now (out .exit))) r ⌝ }
 {
-    reply(tally::tally_block(block, out))
+    reply(tally_calls::tally_block(block, out))
 }
 
 // The tally of two tallies' samples together.
@@ -142,5 +135,5 @@ pub extern "C" fn rde_tally(block: &[u8], out: &mut [u8]) -> RdeAnswer
 pub extern "C" fn rde_join(a: &[u8], b: &[u8], out: &mut [u8]) -> RdeAnswer
     ensures { λ r. ⌜ Told (Writes (joined (now (a .entry)) (now (b .entry)) (length (now (out .entry)))) (now (out .entry)) (now (out .exit))) r ⌝ }
 {
-    reply(tally::join_tallies(a, b, out))
+    reply(tally_calls::join_tallies(a, b, out))
 }

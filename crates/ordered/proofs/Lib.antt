@@ -1,4 +1,3 @@
-pub mod Cell
 pub mod Search
 pub mod Shift
 pub mod Change

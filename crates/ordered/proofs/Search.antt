@@ -6,7 +6,7 @@ use Prim.Native.Nat.{ℕ, _+_, _≤_, _<_}
 use native.Mathlib.Omega.{arith}
 use lib.IntN.{ℤ, pos}
 use lib.Signed.{ltZ}
-use Rattle.slide.specs.Order.{ltZ-false}
+use Rattle.laws.specs.Order.{ltZ-false}
 use Rattle.ordered.specs.Store.{valueAt, valuesOf, values-length, values-at}
 use Rattle.ordered.specs.Place.{Between}
 

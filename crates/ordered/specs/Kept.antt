@@ -6,7 +6,7 @@ use mathlib.Core.Path.{_≡_, sym, ap, _∙_}
 use mathlib.Core.List.{List, [], _∷_, _++_}
 use Prim.Native.Nat.{ℕ, _+_, _-_}
 use lib.IntN.{ℤ}
-use Rattle.slide.specs.Lists.{In}
+use Rattle.laws.specs.Lists.{In}
 use Rattle.slide.specs.Ordered.{Sorted, insert, removeOne, ordered, insert-in, ordered-snoc, ordered-uncons, sorted-ordered}
 use Rattle.ordered.specs.Store.{valuesOf}
 

@@ -8,13 +8,13 @@ use mathlib.Core.Path.{_≡_, refl, sym, ap, _∙_}
 use mathlib.Core.List.{List, [], _∷_, _++_}
 use mathlib.Core.Logic.{_⊎_, inl, inr}
 use mathlib.Core.Bool.{true, true≢false}
-use Prim.Native.Nat.{ℕ, zero, suc, _+_, _≤_, _<_}
+use Prim.Native.Nat.{ℕ, zero, suc, _≤_, _<_}
 use native.Mathlib.Omega.{arith}
 use lib.IntN.{ℤ, pos}
 use lib.ListN.{length, getD, take, drop}
 use lib.Signed.{leZ, ltZ}
-use Rattle.slide.specs.Lists.{In, All, all-at, without}
-use Rattle.slide.specs.Order.{leZ-total, leZ-anti, leZ-refl, ltZ-true}
+use Rattle.laws.specs.Lists.{In, All, all-at, without}
+use Rattle.laws.specs.Order.{leZ-total, leZ-anti, leZ-refl, ltZ-true}
 use Rattle.slide.specs.Ordered.{Sorted, insert, removeOne, insert-at, remove-at}
 
 -- v goes in at lo, at hi or between: the one before lo is less than v, the one at hi is not
@@ -28,7 +28,8 @@ abbrev pub Place : ℤ → List ℤ → ℕ → Type 0
 Place v xs p = Between v xs p p
 
 pub place-insert : (v : ℤ) (xs : List ℤ) (p : ℕ) → Place v xs p → Sorted xs → insert v xs ≡ take p xs ++ (v ∷ drop p xs)
-place-insert v xs p h w = insert-at (pos 0) v xs p w (h .within) (λ j e. leZ-total v (getD xs j (pos 0)) (ltZ-true (getD xs j (pos 0)) v (h .before j e))) (h .from)
+place-insert v xs p h w =
+    insert-at (pos 0) v xs p w (h .within) (λ j e. leZ-total v (getD xs j (pos 0)) (ltZ-true (getD xs j (pos 0)) v (h .before j e))) (h .from)
 
 all-in : (P : ℤ → Type 0) (v : ℤ) (xs : List ℤ) → All P xs → In v xs → P v
 unfolding All In
@@ -51,7 +52,9 @@ place-found v (x ∷ xs) (suc p) h w i = rest i (place-found v xs p later (w .1)
     first (suc k) l = all-at _ (pos 0) xs k (omega arith) (w .0)
 
     rest : (x ≡ v) ⊎ In v xs → (In v xs → (p < length xs) × (getD xs p (pos 0) ≡ v)) → (suc p < suc (length xs)) × (getD xs p (pos 0) ≡ v)
-    rest (inl e) r = absurd (true≢false (sym (first p (omega (arith, h .within))) ∙ ap (λ (y : ℤ). leZ y (getD (x ∷ xs) p (pos 0))) e ∙ ltZ-true _ v (h .before p refl)))
+    rest (inl e) r =
+        let not-less = ap (λ (y : ℤ). leZ y (getD (x ∷ xs) p (pos 0))) e ∙ ltZ-true _ v (h .before p refl) in
+        absurd (true≢false (sym (first p (omega (arith, h .within))) ∙ not-less))
     rest (inr j) r = let q = r j in (omega (arith, q .0), q .1)
 
 pub place-remove : (v : ℤ) (xs : List ℤ) (p : ℕ) → Place v xs p → Sorted xs → In v xs → removeOne v xs ≡ without p xs

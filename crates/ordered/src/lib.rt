@@ -4,9 +4,10 @@ ghost use mathlib.Core.List.{_++_};
 ghost use Prim.Native.Nat.{_+_, _-_, _*_, _≤_, _<_};
 ghost use lib.IntN.{pos};
 ghost use lib.ListN.{length, getD, drop};
-ghost use Rattle.slide.specs.Lists.{without};
+ghost use Rattle.model.specs.Records.{maxWidth};
+ghost use Rattle.laws.specs.Lists.{without};
 ghost use Rattle.slide.specs.Percentile.{rank};
-ghost use Rattle.ordered.specs.Store.{Storable, valueOf, valueAt, valuesOf};
+ghost use Rattle.ordered.specs.Store.{Storable, valueAt, valuesOf};
 ghost use Rattle.ordered.specs.Place.{Place};
 ghost use Rattle.ordered.specs.Kept.{Inserted, Removed};
 
@@ -15,15 +16,7 @@ pub fn at(store: &[u8], i: usize) -> i64
     requires { ⌜ 4 * i + 4 ≤ length (now store) ⌝ }
     ensures { λ r. ⌜ (r ≡ valueAt (now (store .entry)) i) × Storable r ⌝ }
 {
-    field::get_u32(store, 4 * i) as i64 - 32768
-}
-
-// The number that a value's cell holds.
-fn number_of(z: i64) -> u32
-    requires { ⌜ Storable z ⌝ }
-    ensures { λ r. ⌜ valueOf r ≡ z ⌝ }
-{
-    (z + 32768) as u32
+    field::get_i32(store, 4 * i) as i64
 }
 
 // The place of z among the first m values: before the first that is not less, where they are in order.
@@ -79,7 +72,7 @@ pub fn insert(store: &mut [u8], m: usize, z: i64)
 {
     let p = place(store, m, z);
     shift_up(store, m, p);
-    field::put_u32(store, 4 * p, number_of(z));
+    field::put_i32(store, 4 * p, z as i32);
 }
 
 // One z goes from the first m values, which are in order and of which z is one.
@@ -95,7 +88,7 @@ pub fn remove(store: &mut [u8], m: usize, z: i64)
 
 // The 95th percentile of the first m values, which are in order.
 pub fn percentile(store: &[u8], m: usize) -> i64
-    requires { ⌜ (0 < m) × (m ≤ 600) × (4 * m ≤ length (now store)) ⌝ }
+    requires { ⌜ (0 < m) × (m ≤ maxWidth) × (4 * m ≤ length (now store)) ⌝ }
     ensures { λ r. ⌜ r ≡ getD (valuesOf (now (store .entry)) m) (rank m) (pos 0) ⌝ }
 {
     at(store, (95 * m + 99) / 100 - 1)

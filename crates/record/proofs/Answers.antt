@@ -9,9 +9,8 @@ use borrow.Author.Tests.{eq-eqb, ne-eqb}
 use Rattle.model.specs.declared.Function.{Function}
 use Rattle.model.specs.declared.Function.the-variants.{Count}
 use Rattle.model.specs.declared.Sample.{Sample}
-use Rattle.model.specs.declared.Window.{Window}
 use Rattle.model.specs.Numbers.{leAt}
-use Rattle.model.specs.Records.{recordLength, sampleOf, inRange, functions, windowOf, fieldsKept, layoutKept}
+use Rattle.model.specs.Records.{recordLength, sampleOf, inRange, functions, fieldsKept, layoutKept}
 use Rattle.record.specs.declared.SampleRead.the-variants as sample
 use Rattle.record.specs.declared.WindowRead.the-variants as window
 use Rattle.record.specs.declared.FunctionRead.{FunctionRead}
@@ -64,6 +63,6 @@ module _ (r : List ℕ) (l : length r ≡ recordLength) where
   unfolding windowRead layoutKept
   window-fields t e = rw (eq-eqb (length r) recordLength l, t, e)
 
-  pub window-whole : (w : Window) → w ≡ windowOf r → leb (leAt 1 r 0) 5 ≡ true → fieldsKept r ≡ true → window.Window w ≡ windowRead r
+  pub window-whole : leb (leAt 1 r 0) 5 ≡ true → fieldsKept r ≡ true → window.Kept ≡ windowRead r
   unfolding windowRead layoutKept
-  window-whole w p t e = rw (eq-eqb (length r) recordLength l, t, e) (ap window.Window p)
+  window-whole t e = rw (eq-eqb (length r) recordLength l, t, e)

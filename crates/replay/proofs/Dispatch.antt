@@ -12,7 +12,7 @@ use Rattle.field.specs.Part.{put}
 use Rattle.model.specs.Numbers.{leVal, leAt}
 use Rattle.model.specs.Trip.{Call, clear, declare, sample, close, read, verdict, Answer}
 use Rattle.replay.specs.Script.{windowNumber, callOf}
-use Rattle.replay.specs.Answers.{encode}
+use Rattle.answers.specs.Answers.{encode}
 use Rattle.replay.specs.Replayed.{Called}
 
 -- the window's number, from fewer than four bytes and from four

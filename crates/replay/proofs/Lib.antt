@@ -1,4 +1,3 @@
-pub mod Bytes
 pub mod Dispatch
 pub mod Place
 pub mod Going

@@ -1,3 +1,2 @@
 pub mod Script
-pub mod Answers
 pub mod Replayed

@@ -1,5 +1,5 @@
 -- What one call of a script does, what the whole replay promises, and what that comes to by the theorem about every list of calls.
-use mathlib.Core.Bool.{true}
+use mathlib.Core.Bool.{true, _&&_}
 use mathlib.Core.List.{List, _∷_}
 use mathlib.Core.Path.{_≡_, sym, ap, _∙_}
 use Prim.Native.Nat.{ℕ, _*_, _/_, _≤_}
@@ -8,14 +8,15 @@ use lib.Dec.{leb}
 use lib.ListN.{length, take, drop, length-take}
 use lib.Seq.{take-all}
 use borrow.Author.Tests.{leb-true}
-use Rattle.calls.specs.Area.{areaLen, Stands}
+use Rattle.area.specs.Layout.{areaLen}
+use Rattle.area.specs.Stands.{Stands}
 use Rattle.calls.specs.Step.{Step, Run}
 use Rattle.calls.specs.Trace.{Claim, runs, every-list, fresh-runs}
 use Rattle.field.specs.Part.{put}
 use Rattle.model.specs.Trip.{Trip, empty, Call, clear, Answer, answers, after}
 use Rattle.replay.specs.declared.Progress.{Progress}
-use Rattle.replay.specs.Script.{calls}
-use Rattle.replay.specs.Answers.{answerLength, encode, encodes}
+use Rattle.replay.specs.Script.{calls, erroneous}
+use Rattle.answers.specs.Answers.{answerLength, encode, encodes}
 
 -- the calls of a script whose answers have room in so many bytes
 abbrev pub fitting : List ℕ → ℕ → List Call
@@ -34,6 +35,8 @@ pub record Replayed (script s o : List ℕ) (r : Progress) (s′ o′ : List ℕ
   pub written : r .written ≡ answerLength * r .made
   -- whether these are all the calls of the script
   pub ended : r .ended ≡ leb (length (calls script)) (length o / answerLength)
+  -- whether the script ended with an error: a call of a kind that is not known follows them
+  pub failed : r .failed ≡ (r .ended && erroneous script)
   -- they are made in their order, each on the area as the call before left it, with these answers
   pub given : List Answer
   pub run : Run s (fitting script (length o)) given s′

@@ -1,4 +1,2 @@
-pub mod Speeds
-pub mod Counts
-pub mod Broken
-pub mod Judged
+pub mod TallyRules
+pub mod Bounds

@@ -14,15 +14,17 @@ use native.Mathlib.Omega.{arith}
 use lib.IntN.{ℤ}
 use lib.ListN.{length, getD}
 use Rattle.model.specs.declared.Sample.{Sample}
-use Rattle.model.specs.declared.Window.{Window}
 use Rattle.model.specs.declared.Function.{Function}
 use Rattle.model.specs.declared.Function.the-variants.{Count, Sum, Smallest, Largest, Average, Percentile}
-use Rattle.model.specs.Records.{channel}
+use Rattle.model.specs.Records.{channel, Window}
 use Rattle.model.specs.Windows.{qualifying, valueAt, values, figure, reading, keepsEntries, displaces, undisplaced, held}
-use Rattle.slide.specs.Lists.{All, all-map, empty, one, Rising}
-use Rattle.slide.specs.Order.{Order, upwards, downwards, best, best-is, smallest-best, largest-best}
-use Rattle.slide.specs.Step.{more, leaves, leaves-full, enters, staying, staying-within, staying-room, qualifying-within, qualifying-rising, qualifying-length, qualifying-before, qualifying-after, qualifying-start, value-before, value-new}
-use Rattle.slide.specs.Undisplaced.{pops, pops-same, aged, all-undisplaced, rising-undisplaced, length-undisplaced, undisplaced-pops, undisplaced-aged, undisplaced-same, undisplaced-nil, by-value-law, first-best}
+use Rattle.laws.specs.Lists.{All, all-map, length-zero, one, Rising}
+use Rattle.laws.specs.Order.{Order, upwards, downwards, best, best-is, smallest-best, largest-best}
+use Rattle.slide.specs.Step.{more, leaves, leaves-full, enters, staying, staying-within, staying-room}
+use Rattle.slide.specs.Step.{qualifying-within, qualifying-rising, qualifying-length, qualifying-before, qualifying-after, qualifying-start}
+use Rattle.slide.specs.Step.{value-before, value-new}
+use Rattle.slide.specs.Undisplaced.{pops, pops-same, aged, all-undisplaced, rising-undisplaced, length-undisplaced}
+use Rattle.slide.specs.Undisplaced.{undisplaced-pops, undisplaced-aged, undisplaced-same, undisplaced-nil, by-value-law, first-best}
 
 -- where second n qualifies, those that it displaces go too, from the back, and it comes
 unfoldable pub stepped : ℕ → ℕ → Bool → (ℕ → Bool) → List ℕ → List ℕ
@@ -109,13 +111,14 @@ module _ (w : Window) (ss : List Sample) (keeps : keepsEntries (w .function) ≡
 
   pub reading-unheld : length (held w ss) ≡ 0 → reading w ss ≡ none
   unfolding best
-  reading-unheld e = reading-best ∙ ap (best (displaces (w .function))) (unheld-values (empty (held w ss) e))
+  reading-unheld e = reading-best ∙ ap (best (displaces (w .function))) (unheld-values (length-zero (held w ss) e))
 
   module _ (wide : 0 < w .width) where
     pub held-aged : aged (w .width) (length ss) (held w ss) ≡ undisplaced (displacedBy w ss) (staying w ss)
     held-aged =
         rw (held-is w ss keeps, qualifying-before w ss wide)
-        (undisplaced-aged (displacedBy w ss) (leaves w ss) (length ss - w .width) (w .width) (length ss) (staying w ss) (λ e. omega (arith, leaves-full w ss e)) (all-map (λ x h. h .0) (staying w ss) (staying-within w ss)))
+        (undisplaced-aged (displacedBy w ss) (leaves w ss) (length ss - w .width) (w .width) (length ss) (staying w ss) (λ e. omega (arith, leaves-full w ss e))
+        (all-map (λ x h. h .0) (staying w ss) (staying-within w ss)))
 
     -- one sample more: d is the new one's test, for each second that stays in view
     pub held-stepped : (s : Sample) (d : ℕ → Bool)
@@ -141,7 +144,8 @@ module _ (w : Window) (ss : List Sample) (keeps : keepsEntries (w .function) ≡
         by true =
             ap (λ (l : List ℕ). l ++ (length ss ∷ []))
             (pops-same d (displacedBy w (more ss s) (length ss)) _ agree ∙ ap (pops (displacedBy w (more ss s) (length ss))) kept)
-            ∙ sym (undisplaced-pops (displacedBy w (more ss s)) (by-value-law (displaces (w .function)) (displaces-order (w .function) keeps) (valueAt w (more ss s))) (staying w ss) (length ss))
+            ∙ sym (undisplaced-pops (displacedBy w (more ss s))
+            (by-value-law (displaces (w .function)) (displaces-order (w .function) keeps) (valueAt w (more ss s))) (staying w ss) (length ss))
         by false = rw append-nil kept
 
     -- there is room for one more

@@ -1,7 +1,5 @@
 -- Laws of sliding windows, over the reference model's definitions: what one sample more does to a window.
-pub mod Lists
-pub mod Sums
-pub mod Order
+pub mod Conditions
 pub mod Ordered
 pub mod Percentile
 pub mod Step

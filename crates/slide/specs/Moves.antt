@@ -13,11 +13,12 @@ use Prim.Native.Nat.{ℕ, _+_, _-_, _*_, _≤_, _<_}
 use native.Mathlib.Nat.{zero-add}
 use native.Mathlib.Omega.{arith}
 use lib.ListN.{length, getD, length-append}
+use Rattle.model.specs.Records.{Window}
 use Rattle.model.specs.declared.Sample.{Sample}
-use Rattle.model.specs.declared.Window.{Window}
 use Rattle.model.specs.Numbers.{bit, range, filter, total}
 use Rattle.model.specs.Windows.{qualifies, qualifying, lookedAt, keepsEntries, entries, held, moves}
-use Rattle.slide.specs.Lists.{all-map, length-one, filter-append, filter-one, filter-same, length-filter, length-range, range-snoc, range-append, range-within, total-zero, total-le, total-bound, midway, midway-start, midway-end, midway-step}
+use Rattle.laws.specs.Lists.{all-map, length-one, filter-append, filter-one, filter-same, length-filter, length-range, range-snoc, range-append}
+use Rattle.laws.specs.Lists.{range-within, total-zero, total-le, total-bound, midway, midway-start, midway-end, midway-step}
 use Rattle.slide.specs.Step.{more, length-more, enters, qualifies-before}
 use Rattle.slide.specs.Held.{held-qualifying, held-unkept, held-start}
 
@@ -41,7 +42,8 @@ entries-step w ss s = by (keepsEntries (w .function))
     by true =
         rw (length-more ss s, range-snoc 0 (length ss), zero-add, filter-append, length-append, filter-one)
         (ap₂ _+_
-        (ap length (filter-same (qualifies w (more ss s)) (qualifies w ss) (range 0 (length ss)) (all-map (λ x h. qualifies-before w ss s x (omega arith)) _ (range-within 0 (length ss)))))
+        (ap length (filter-same (qualifies w (more ss s)) (qualifies w ss) (range 0 (length ss))
+        (all-map (λ x h. qualifies-before w ss s x (omega arith)) _ (range-within 0 (length ss)))))
         (unfold enters in length-one (qualifies w (more ss s) (length ss)) (length ss)))
     by false = refl
 

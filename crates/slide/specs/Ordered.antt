@@ -14,8 +14,8 @@ use lib.IntN.{ℤ}
 use lib.ListN.{length, getD, take, drop}
 use lib.Signed.{leZ, ltZ}
 use Rattle.model.specs.Numbers.{bit, count}
-use Rattle.slide.specs.Lists.{In, All, all-map, all-at, without}
-use Rattle.slide.specs.Order.{leZ-total, leZ-trans, leZ-anti, leZ-refl, ltZ-leZ, ltZ-true, ltZ-false}
+use Rattle.laws.specs.Lists.{In, All, all-map, all-at, without}
+use Rattle.laws.specs.Order.{leZ-total, leZ-trans, leZ-anti, leZ-refl, ltZ-leZ, ltZ-true, ltZ-false}
 
 -- v before the first larger value
 unfoldable pub insert : ℤ → List ℤ → List ℤ

@@ -16,8 +16,9 @@ use lib.ListN.{length, getD}
 use lib.Signed.{leZ}
 use Rattle.model.specs.Numbers.{bit, filter, count}
 use Rattle.model.specs.Windows.{smallest, enough, percentile}
-use Rattle.slide.specs.Lists.{All, all-at, in-at, in-filter, all-filter}
-use Rattle.slide.specs.Order.{ltb-leb, leZ-trans, leZ-refl, upwards, smallest-best, best-is}
+use Rattle.laws.specs.Lists.{All, all-at, in-at, in-filter, all-filter}
+use Rattle.laws.specs.Tests.{not-not}
+use Rattle.laws.specs.Order.{ltb-leb, leZ-trans, leZ-refl, upwards, smallest-best, best-is}
 use Rattle.slide.specs.Ordered.{Least, Sorted, ordered, sorted-ordered, count-ordered, length-ordered, in-ordered}
 
 -- where the percentile of m values stands in their order
@@ -76,8 +77,12 @@ module _ (zs : List ℤ) (h : 0 < length zs) (d : ℤ) where
   rank-test p down = by (p at-rank) refl
     where
       by : (b : Bool) → p at-rank ≡ b → b ≡ leb (95 * length zs) (100 * count p zs)
-      by true e = sym (le-leb (95 * length zs) (100 * count p zs) (omega (arith, rank-pass p down d (ordered zs) (rank (length zs)) (sorted-ordered zs) inside e, count-ordered p zs)))
-      by false e = sym (lt-leb (95 * length zs) (100 * count p zs) (omega (arith, rank-fail p down d (ordered zs) (rank (length zs)) (sorted-ordered zs) inside e, count-ordered p zs)))
+      by true e =
+          sym (le-leb (95 * length zs) (100 * count p zs)
+          (omega (arith, rank-pass p down d (ordered zs) (rank (length zs)) (sorted-ordered zs) inside e, count-ordered p zs)))
+      by false e =
+          sym (lt-leb (95 * length zs) (100 * count p zs)
+          (omega (arith, rank-fail p down d (ordered zs) (rank (length zs)) (sorted-ordered zs) inside e, count-ordered p zs)))
 
   rank-enough : (t : ℤ) → leZ at-rank t ≡ enough zs t
   unfolding enough
@@ -125,8 +130,5 @@ module _ (p : ℤ → Bool) (up : Upward p) where
   percentile-passes (z ∷ zs) =
       let e = percentile-rank (z ∷ zs) (omega arith) z in
       let v : ℤ = getD (ordered (z ∷ zs)) (rank (length (z ∷ zs))) z in
-      ap (passes p) e ∙ twice (p v) ∙ ap not (percentile-test (z ∷ zs) v e (λ z. not (p z)) fails-downward) ∙ sym (ltb-leb (100 * count (λ z. not (p z)) (z ∷ zs)) (95 * length (z ∷ zs)))
-    where
-      twice : (t : Bool) → t ≡ not (not t)
-      twice true = refl
-      twice false = refl
+      ap (passes p) e ∙ not-not (p v) ∙ ap not (percentile-test (z ∷ zs) v e (λ z. not (p z)) fails-downward)
+      ∙ sym (ltb-leb (100 * count (λ z. not (p z)) (z ∷ zs)) (95 * length (z ∷ zs)))

@@ -3,22 +3,28 @@
 --     reading-none      with no value, the others have no reading
 -- Assumes nothing.
 use mathlib.Core.Path.{_≡_, refl, ap, _∙_}
-use mathlib.Core.List.{List, []}
+use mathlib.Core.List.{List, [], _∷_}
 use mathlib.Core.Option.{none, some}
 use mathlib.Core.Bool.{Bool, true, false, false≢true}
 use Prim.Native.Nat.{_<_}
+use native.Mathlib.Omega.{arith}
 use lib.IntN.{ℤ, pos}
 use lib.ListN.{length, getD}
+use Rattle.model.specs.Records.{Window}
 use Rattle.model.specs.declared.Sample.{Sample}
-use Rattle.model.specs.declared.Window.{Window}
 use Rattle.model.specs.declared.Function.{Function}
 use Rattle.model.specs.declared.Function.the-variants.{Count, Sum, Smallest, Largest, Average, Percentile}
 use Rattle.model.specs.Numbers.{sumℤ, floorDiv}
 use Rattle.model.specs.Windows.{values, smallest, largest, average, figure, reading}
-use Rattle.slide.specs.Lists.{empty}
+use Rattle.laws.specs.Lists.{length-zero}
 use Rattle.slide.specs.Ordered.{ordered}
 use Rattle.slide.specs.Percentile.{rank, percentile-rank, percentile-empty}
-use Rattle.slide.specs.Sums.{average-is}
+
+-- the average by the count and the sum
+average-is : (zs : List ℤ) → 0 < length zs → average zs ≡ some (floorDiv (sumℤ zs) (length zs))
+unfolding average
+average-is [] h = absurd (omega arith)
+average-is (z ∷ zs) h = refl
 
 -- with no value, function codes 2 to 5 have no reading
 unfoldable pub needsValues : Function → Bool
@@ -62,4 +68,4 @@ module _ (w : Window) (ss : List Sample) where
 
   pub reading-none : needsValues (w .function) ≡ true → length (values w ss) ≡ 0 → reading w ss ≡ none
   unfolding reading
-  reading-none e h = ap (figure (w .function)) (empty (values w ss) h) ∙ figure-none (w .function) e
+  reading-none e h = ap (figure (w .function)) (length-zero (values w ss) h) ∙ figure-none (w .function) e

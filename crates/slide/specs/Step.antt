@@ -21,12 +21,13 @@ use lib.IntN.{ℤ, pos, natAbs, _+ℤ_, _-ℤ_, +ℤ-idr}
 use lib.ListN.{length, length-append, length-map, List·getD-append}
 use lib.Seq.{getD-append-seam}
 use Rattle.model.specs.declared.Sample.{Sample}
-use Rattle.model.specs.declared.Window.{Window}
 use Rattle.model.specs.Numbers.{bit, range, filter, sumℤ}
-use Rattle.model.specs.Records.{channel, sampleOf}
+use Rattle.model.specs.Records.{channel, sampleOf, Window}
 use Rattle.model.specs.Windows.{sampleAt, lookedAt, qualifies, qualifying, valueAt, values}
-use Rattle.slide.specs.Lists.{All, all-map, all-filtered, all-mapped, all-at, one, length-one, filter-append, filter-one, filter-cons, filter-same, length-filter, map-same, map-one, range-snoc, range-within, length-range, Rising, rising-range, rising-filter}
-use Rattle.slide.specs.Sums.{sum-snoc, sum-tail, sum-within}
+use Rattle.slide.specs.Conditions.{qualifies-near}
+use Rattle.laws.specs.Lists.{All, all-map, all-filtered, all-mapped, all-at, one, length-one, filter-append, filter-one, filter-cons}
+use Rattle.laws.specs.Lists.{filter-same, length-filter, map-same, map-one, range-snoc, range-within, length-range, Rising, rising-range, rising-filter}
+use Rattle.laws.specs.Sums.{sum-snoc, sum-tail, sum-within}
 
 -- the samples with one more
 abbrev pub more : List Sample → Sample → List Sample
@@ -92,7 +93,9 @@ module _ (w : Window) (ss : List Sample) where
 
   pub qualifying-length : length (qualifying w ss) ≤ w .width
   unfolding qualifying lookedAt
-  qualifying-length = omega (arith, length-filter (qualifies w ss) (range (n - w .width) (n - (n - w .width))), length-range (n - w .width) (n - (n - w .width)))
+  qualifying-length =
+      let first : ℕ = n - w .width in
+      omega (arith, length-filter (qualifies w ss) (range first (n - first)), length-range first (n - first))
 
   pub length-values : length (values w ss) ≤ w .width
   unfolding values
@@ -109,8 +112,7 @@ module _ (w : Window) (ss : List Sample) where
 
   module _ (s : Sample) where
     pub qualifies-before : (i : ℕ) → i < length ss → qualifies w (more ss s) i ≡ qualifies w ss i
-    unfolding qualifies
-    qualifies-before i h = rw (sample-before ss s i h) refl
+    qualifies-before i h = qualifies-near w (more ss s) ss i (λ j l r. sample-before ss s j (omega arith))
 
     pub value-before : (i : ℕ) → i < length ss → valueAt w (more ss s) i ≡ valueAt w ss i
     unfolding valueAt
@@ -190,10 +192,16 @@ module _ (w : Window) (ss : List Sample) where
 
     -- rolled on: what leaves is taken away, what enters is added
     pub count-before : length (values w ss) ≡ bit (leaves w ss) + length (stayingValues w ss)
-    count-before = rw values-before (length-append (one (leaves w ss) (leaving w ss)) (stayingValues w ss) ∙ ap (λ (k : ℕ). k + length (stayingValues w ss)) (length-one (leaves w ss) (leaving w ss)))
+    count-before =
+        rw values-before
+        (length-append (one (leaves w ss) (leaving w ss)) (stayingValues w ss)
+        ∙ ap (λ (k : ℕ). k + length (stayingValues w ss)) (length-one (leaves w ss) (leaving w ss)))
 
     pub count-after : (s : Sample) → length (values w (more ss s)) ≡ length (stayingValues w ss) + bit (enters w ss s)
-    count-after s = rw (values-after s) (length-append (stayingValues w ss) (one (enters w ss s) (channel (w .channel) s)) ∙ ap (λ (k : ℕ). length (stayingValues w ss) + k) (length-one (enters w ss s) (channel (w .channel) s)))
+    count-after s =
+        rw (values-after s)
+        (length-append (stayingValues w ss) (one (enters w ss s) (channel (w .channel) s))
+        ∙ ap (λ (k : ℕ). length (stayingValues w ss) + k) (length-one (enters w ss s) (channel (w .channel) s)))
 
     pub count-step : (s : Sample) → length (values w (more ss s)) + bit (leaves w ss) ≡ length (values w ss) + bit (enters w ss s)
     count-step s = omega (arith, count-before, count-after s)

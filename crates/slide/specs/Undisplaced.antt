@@ -18,8 +18,8 @@ use lib.ListN.{length, getD, take, drop}
 use lib.Seq.{take-length, take-suc}
 use Rattle.model.specs.Numbers.{filter, any}
 use Rattle.model.specs.Windows.{undisplaced}
-use Rattle.slide.specs.Lists.{In, All, any-snoc, one, Rising}
-use Rattle.slide.specs.Order.{Order, order-refl}
+use Rattle.laws.specs.Lists.{In, All, any-snoc, one, Rising}
+use Rattle.laws.specs.Order.{Order, order-refl}
 
 -- from the back, while the test holds
 abbrev stop : (ℕ → Bool) → ℕ → List ℕ → List ℕ
@@ -156,7 +156,8 @@ module _ (by : ℕ → ℕ → Bool) where
   any-undisplaced p [] e = refl
   any-undisplaced p (z ∷ xs) e = go (p z) (any (λ j. by j z) xs) refl e (any-undisplaced p xs)
     where
-      go : (b c : Bool) → p z ≡ b → (b || any p xs) ≡ false → (any p xs ≡ false → any p (undisplaced by xs) ≡ false) → any p (cond c (undisplaced by xs) (z ∷ undisplaced by xs)) ≡ false
+      go : (b c : Bool) → p z ≡ b → (b || any p xs) ≡ false → (any p xs ≡ false → any p (undisplaced by xs) ≡ false)
+          → any p (cond c (undisplaced by xs) (z ∷ undisplaced by xs)) ≡ false
       go true c f e r = absurd (true≢false e)
       go false true f e r = r e
       go false false f e r = rw f (r e)

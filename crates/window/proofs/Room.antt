@@ -9,8 +9,8 @@ use borrow.Author.Tests.{lt-ltb, le-ltb, eq-eqb, ne-eqb}
 use lib.Dec.{ltb, eqb}
 use lib.ListN.{length, getD, length-drop}
 use Rattle.slide.specs.Undisplaced.{aged, aged-goes, aged-stays}
-use Rattle.slots.specs.Layout.{slotOf, numberOf}
-use Rattle.slots.specs.Lists.{listOf, number-length}
+use Rattle.slots.specs.Layout.{listCapacity, slotOf, numberOf}
+use Rattle.lists.specs.Lists.{listOf, number-length}
 
 aged-shorter : (w n : ℕ) (l : List ℕ) → length (aged w n l) ≤ length l
 unfolding aged
@@ -22,20 +22,30 @@ aged-shorter w n (x ∷ l) = by (eqb (x + w) n)
     by false = omega arith
 
 module _ (w n k : ℕ) (p : List ℕ) where
-  pub room-below : numberOf p k < 600 → true ≡ ltb (length (aged w n (listOf p k))) 600
-  room-below h = sym (lt-ltb (length (aged w n (listOf p k))) 600 (omega (arith, aged-shorter w n (listOf p k), number-length (slotOf p k))))
+  -- the list once it is aged
+  abbrev left : List ℕ
+  left = aged w n (listOf p k)
 
-  module _ (full : 600 ≤ numberOf p k) where
-    pub room-young : n < w → false ≡ ltb (length (aged w n (listOf p k))) 600
-    room-young h = sym (le-ltb (length (aged w n (listOf p k))) 600 (rw (aged-stays w n (listOf p k) (λ z e. omega arith)) (omega (arith, number-length (slotOf p k)))))
+  number : length (listOf p k) ≡ numberOf p k
+  number = number-length (slotOf p k)
 
-    pub room-first : (x : ℕ) → numberOf p k ≤ 600 → w ≤ n → x ≡ getD (listOf p k) 0 0 → eqb x (n - w) ≡ ltb (length (aged w n (listOf p k))) 600
+  pub room-below : numberOf p k < listCapacity → true ≡ ltb (length (aged w n (listOf p k))) listCapacity
+  room-below h = sym (lt-ltb (length left) listCapacity (omega (arith, aged-shorter w n (listOf p k), number)))
+
+  module _ (full : listCapacity ≤ numberOf p k) where
+    -- where the first stays, there is no room
+    no-room : (0 < length (listOf p k) → getD (listOf p k) 0 0 + w ≡ n → ⊥) → ltb (length left) listCapacity ≡ false
+    no-room h = le-ltb (length left) listCapacity (rw (aged-stays w n (listOf p k) h) (omega (arith, number)))
+
+    pub room-young : n < w → false ≡ ltb (length (aged w n (listOf p k))) listCapacity
+    room-young h = sym (no-room (λ z e. omega arith))
+
+    pub room-first : (x : ℕ) → numberOf p k ≤ listCapacity → w ≤ n → x ≡ getD (listOf p k) 0 0
+        → eqb x (n - w) ≡ ltb (length (aged w n (listOf p k))) listCapacity
     room-first x most h e = by (ℕ-discrete x (n - w))
       where
-        by : Dec (x ≡ n - w) → eqb x (n - w) ≡ ltb (length (aged w n (listOf p k))) 600
+        by : Dec (x ≡ n - w) → eqb x (n - w) ≡ ltb (length left) listCapacity
         by (yes f) =
-            eq-eqb x (n - w) f
-            ∙ sym (lt-ltb (length (aged w n (listOf p k))) 600 (rw (aged-goes w n (listOf p k) (omega (arith, number-length (slotOf p k))) (omega arith)) (omega (arith, length-drop 1 (listOf p k), number-length (slotOf p k)))))
-        by (no f) =
-            ne-eqb x (n - w) f
-            ∙ sym (le-ltb (length (aged w n (listOf p k))) 600 (rw (aged-stays w n (listOf p k) (λ z g. f (omega arith))) (omega (arith, number-length (slotOf p k)))))
+            let gone = aged-goes w n (listOf p k) (omega (arith, number)) (omega arith) in
+            eq-eqb x (n - w) f ∙ sym (lt-ltb (length left) listCapacity (rw gone (omega (arith, length-drop 1 (listOf p k), number))))
+        by (no f) = ne-eqb x (n - w) f ∙ sym (no-room (λ z g. f (omega arith)))

@@ -1,7 +1,4 @@
--- The sliding windows: what their part stands for, one slot's step, the sweep over all slots, and the readings.
+-- The sliding windows: what their part stands for, one slot's step, and the sweep over all slots.
 pub mod Stand
-pub mod Change
 pub mod Slot
 pub mod Sweep
-pub mod Read
-pub mod Sound

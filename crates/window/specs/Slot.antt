@@ -1,8 +1,10 @@
 -- One window's slot as one more sample comes: what a slot stands for before, what `turn` does to its bytes, and what it stands for after.
 --     Before, After, Turned    before and after a turn; what a turn ensures
+--     Changes                  what `read_change` reads of a slot and the ring
 --     Slides, slides           the change that code reads off the ring is the window's
 --     before-fit, before-rollable      no test of `turn` fails where the slot stands
 --     Kept, kept-plain, kept-list, kept-full, kept-values      the list and the store, one law for each kind of function
+--     Fillable, Refilled       before and after the store of values is changed
 --     turned, turned-unfit, turned-unrollable      one law for each return of `turn`
 -- Assumes nothing.
 use mathlib.Core.Bool.{Bool, true, false, false≢true}
@@ -16,37 +18,41 @@ use lib.Dec.{leb}
 use lib.IntN.{ℤ, pos, negsuc, natAbs}
 use lib.ListN.{length, getD, take, drop}
 use Rattle.field.specs.Part.{part, put, part-length, part-part, part-other, part-same}
-use Rattle.model.specs.Numbers.{leAt, bit, sumℤ, withinℤ, within}
-use Rattle.model.specs.Records.{sampleOf, inRange, channels, channel, functions, windowOf, fieldsKept, layoutKept}
+use Rattle.model.specs.Numbers.{leAt, bit, sumℤ, within}
+use Rattle.model.specs.Records.{maxWindows, maxWidth, maxChannel, sampleOf, inRange, channel, functions, windowOf, fieldsKept, layoutKept, Window}
 use Rattle.model.specs.Windows.{sampleAt, qualifies, valueAt, values, held, keepsEntries, displaces}
 use Rattle.model.specs.declared.Function.the-variants.{Count, Percentile}
 use Rattle.model.specs.declared.Sample.{Sample}
-use Rattle.model.specs.declared.Window.{Window}
 use Rattle.ordered.specs.Store.{Storable, valuesOf}
-use Rattle.field.specs.Tests.{Each, all-each, both}
-use Rattle.record.specs.Ranges.{in-range, product-positive, channel-small}
-use Rattle.slide.specs.Held.{stepped, held-stepped, held-unkept, held-length, aged-length}
-use Rattle.slide.specs.Lists.{All, all-map, one}
+use Rattle.laws.specs.Tests.{Each, all-each, both}
+use Rattle.record.specs.Ranges.{channel-small, EachInRange}
+use Rattle.slide.specs.Conditions.{qualifies-near}
+use Rattle.slide.specs.Held.{held-stepped, held-unkept, held-length, aged-length}
+use Rattle.laws.specs.Lists.{all-map, one}
 use Rattle.slide.specs.Moves.{heldIn, newEntry, kept-moves, unkept-moves}
 use Rattle.slide.specs.Ordered.{ordered}
-use Rattle.slide.specs.Step.{more, leaves, leaves-now, leaves-not, enters, leaving, stayingValues, values-before, values-after, count-before, count-step, sum-step, length-values, sum-bound, qualifies-before, value-before, value-new, addend}
+use Rattle.slide.specs.Step.{more, leaves, leaves-now, leaves-not, enters, leaving, stayingValues, values-before, values-after, count-before}
+use Rattle.slide.specs.Step.{count-step, sum-step, length-values, sum-bound, qualifies-before, value-before, value-new, addend}
 use Rattle.slide.specs.Undisplaced.{aged}
-use Rattle.slots.specs.Effects.{Around, le-around, Beside, beside-same, beside-then, Written, written, Totalled}
-use Rattle.slots.specs.Layout.{partLen, slotsPlace, slotLen, slotOf, slot-length, countPlace, firstPlace, storePlace, storeLen, numberPlace, recordOf, movesOf, codeIn, widthIn, countIn, sumIn, storeIn, recordIn, windowIn, firstOf, numberOf, valueIn, qualifiesIn, displacesIn, extreme, window-function, window-width, value-window, qualifies-window}
-use Rattle.slots.specs.Lists.{listOf, number-length, list-none, list-around}
-use Rattle.slots.specs.Steps.{Fit, Became, Fitness}
-use Rattle.window.specs.Change.{Changes, Rollable, Rolling, countAfter, sumAfter, Restocked}
+use Rattle.slots.specs.Effects.{Around, le-around, record-around, around-in, Beside, beside-same, beside-then, Written, written, Totalled}
+use Rattle.slots.specs.Layout.{partLen, ringSeconds, slotsPlace, slotLen, slotOf, slot-length, countPlace, totalsLen, firstPlace, endsLen}
+use Rattle.slots.specs.Layout.{numberPlace, storePlace, storeLen, listLen, listCapacity, recordOf, movesOf, codeIn, widthIn, countIn, sumIn}
+use Rattle.slots.specs.Layout.{storeIn, recordIn, windowIn, firstOf, numberOf}
+use Rattle.slots.specs.Layout.{ringSamples, ring-sample, valueIn, qualifiesIn, window-function, window-width, value-window}
+use Rattle.lists.specs.Lists.{listOf, number-length, list-none, list-around}
+use Rattle.lists.specs.Steps.{extreme, displacesIn, Fit, ListStepped, Fitness}
+use Rattle.rolling.specs.Change.{Small, Roomy, Rollable, Rolling, countAfter, sumAfter, Restocked}
+use Rattle.rolling.specs.declared.Change.{Change}
 use Rattle.window.specs.Stand.{SlotStands}
-use Rattle.window.specs.declared.Change.{Change}
 
 -- slot k stands for window w after the samples ss, and the ring has the sample x that comes
 pub record Before (w : Window) (ss : List Sample) (x : Sample) (k n : ℕ) (p : List ℕ) : Type 0 where
   pub size : length p ≡ partLen
-  pub slot : k < 16
+  pub slot : k < maxWindows
   pub second : n ≡ length ss
-  pub ranges : All (λ s. inRange s ≡ true) ss
+  pub ranges : EachInRange ss
   pub range : inRange x ≡ true
-  pub ring : (i : ℕ) → i ≤ length ss → length ss < i + 610 → sampleOf (recordOf p i) ≡ sampleAt (more ss x) i
+  pub ring : (i : ℕ) → i ≤ length ss → length ss < i + ringSeconds → sampleOf (recordOf p i) ≡ sampleAt (more ss x) i
   pub stands : SlotStands w ss (slotOf p k)
   pub moves : movesOf p ≤ 2 ^ 62
 
@@ -60,6 +66,14 @@ pub record Turned (k n : ℕ) (p q : List ℕ) : Type 0 where
   pub beside : Beside k p q
   pub on : (w : Window) (ss : List Sample) (x : Sample) → Before w ss x k n p → After w ss x k p q
 
+-- what leaves and what enters as second n comes, of whose record the ring has n's already
+pub record Changes (p : List ℕ) (k n : ℕ) (c : Change) : Type 0 where
+  pub full : widthIn (slotOf p k) ≤ n → (c .leaves ≡ qualifiesIn p k (n - widthIn (slotOf p k))) × (c .old ≡ valueIn p k (n - widthIn (slotOf p k)))
+  pub filling : n < widthIn (slotOf p k) → c .leaves ≡ false
+  pub enters : c .enters ≡ qualifiesIn p k n
+  pub new : c .new ≡ valueIn p k n
+  pub small : Small c
+
 -- the change is the window's
 pub record Slides (w : Window) (ss : List Sample) (x : Sample) (c : Change) : Type 0 where
   pub leaves : c .leaves ≡ leaves w ss
@@ -71,36 +85,28 @@ layout-fields : (r : List ℕ) → layoutKept r ≡ true → fieldsKept r ≡ tr
 unfolding layoutKept
 layout-fields r e = both (leb (leAt 1 r 0) 5) (fieldsKept r) e .1
 
--- a window record that keeps the layout is 1 to 600 wide
-pub layout-width : (r : List ℕ) → layoutKept r ≡ true → (0 < windowOf r .width) × (windowOf r .width ≤ 600)
+-- a window record that keeps the layout is 1 to maxWidth wide
+pub layout-width : (r : List ℕ) → layoutKept r ≡ true → (0 < windowOf r .width) × (windowOf r .width ≤ maxWidth)
 unfolding fieldsKept Each windowOf within
 layout-width r e =
     let h = both _ _ (all-each _ (layout-fields r e) .1 .1 .1 .0) in
-    (leb-true 1 (leAt 2 r 4) (h .0), leb-true (leAt 2 r 4) 600 (h .1))
+    (leb-true 1 (leAt 2 r 4) (h .0), leb-true (leAt 2 r 4) maxWidth (h .1))
 
 -- every channel of a sample that is in range can be stored
 pub channel-storable : (s : Sample) → inRange s ≡ true → (c : ℕ) → Storable (channel c s)
-unfolding channel channels
-channel-storable s e zero = omega (arith, in-range s e .speed)
-channel-storable s e (suc zero) = by (s .altitude) (in-range s e .altitude)
+channel-storable s e c = by (channel c s) (channel-small s e c)
   where
-    by : (z : ℤ) → natAbs z ≤ 5000 → Storable z
+    by : (z : ℤ) → natAbs z ≤ maxChannel → Storable z
     by (pos n) h = omega arith
     by (negsuc n) h = omega arith
-channel-storable s e (suc (suc zero)) = omega (arith, in-range s e .temperature)
-channel-storable s e (suc (suc (suc zero))) = omega (arith, in-range s e .flow)
-channel-storable s e (suc (suc (suc (suc zero)))) = rw (in-range s e .nox-positive) (omega (arith, in-range s e .nox))
-channel-storable s e (suc (suc (suc (suc (suc zero))))) = omega (arith, in-range s e .co2)
-channel-storable s e (suc (suc (suc (suc (suc (suc zero)))))) =
-    rw (product-positive s e) (omega (arith, rw (product-positive s e) at (channel-small s e 6)))
-channel-storable s e (suc (suc (suc (suc (suc (suc (suc c))))))) = omega arith
 
 -- the list of a slot that stands may be used
-pub stands-fit : (w : Window) (ss : List Sample) (k : ℕ) (p : List ℕ) → length p ≡ partLen → k < 16 → movesOf p ≤ 2 ^ 62 → SlotStands w ss (slotOf p k) → Fit p k
+pub stands-fit : (w : Window) (ss : List Sample) (k : ℕ) (p : List ℕ) → length p ≡ partLen → k < maxWindows → movesOf p ≤ 2 ^ 62
+    → SlotStands w ss (slotOf p k) → Fit p k
 stands-fit w ss k p size slot moves s =
     let e : numberOf p k ≡ length (held w ss) = sym (number-length (slotOf p k)) ∙ ap length (s .list) in
     let o = rw (s .window) at (layout-width (recordIn (slotOf p k)) (s .layout)) in
-    let l : length (held w ss) ≤ 600 = omega (arith, held-length w ss) in
+    let l : length (held w ss) ≤ maxWidth = omega (arith, held-length w ss) in
     record {
       ready = record { size = size; slot = slot; first = s .first };
       number = omega arith;
@@ -113,7 +119,8 @@ stands-function w ss s h m e =
     ap (λ (v : Window). v .function) (sym (h .window)) ∙ window-function s ∙ ap (λ (i : ℕ). getD functions i Count) e
 
 -- what slot k's window reads of a second's sample
-pub value-read : (w : Window) (k : ℕ) (p : List ℕ) → windowIn (slotOf p k) ≡ w → (i : ℕ) (y : Sample) → sampleOf (recordOf p i) ≡ y → valueIn p k i ≡ channel (w .channel) y
+pub value-read : (w : Window) (k : ℕ) (p : List ℕ) → windowIn (slotOf p k) ≡ w → (i : ℕ) (y : Sample) → sampleOf (recordOf p i) ≡ y
+    → valueIn p k i ≡ channel (w .channel) y
 value-read w k p e i y h = value-window p k i ∙ ap₂ (λ (v : Window) (z : Sample). channel (v .channel) z) e h
 
 -- codes 2 and 3
@@ -126,18 +133,19 @@ module _ (w : Window) (ss : List Sample) (x : Sample) (k n : ℕ) (p : List ℕ)
   width-here : widthIn (slotOf p k) ≡ w .width
   width-here = sym (window-width (slotOf p k)) ∙ ap (λ (v : Window). v .width) (b .stands .window)
 
-  wide : (0 < w .width) × (w .width ≤ 600)
+  wide : (0 < w .width) × (w .width ≤ maxWidth)
   wide = rw (b .stands .window) at (layout-width (recordIn (slotOf p k)) (b .stands .layout))
 
-  value-here : (i : ℕ) → i ≤ length ss → length ss < i + 610 → valueIn p k i ≡ valueAt w (more ss x) i
+  value-here : (i : ℕ) → i ≤ length ss → length ss < i + ringSeconds → valueIn p k i ≡ valueAt w (more ss x) i
   unfolding valueAt
   value-here i h l = value-read w k p (b .stands .window) i _ (b .ring i h l)
 
-  qualifies-here : (i : ℕ) → i ≤ length ss → length ss < i + 610 → qualifiesIn p k i ≡ qualifies w (more ss x) i
-  unfolding qualifies
+  -- the ring has what the condition of a second in the widest view looks back to
+  qualifies-here : (i : ℕ) → i ≤ length ss → length ss ≤ i + maxWidth → qualifiesIn p k i ≡ qualifies w (more ss x) i
+  unfolding qualifiesIn
   qualifies-here i h l =
-      qualifies-window p k i
-      ∙ ap₂ (λ (v : Window) (y : Sample). withinℤ (v .low) (v .high) (channel (v .condition) y)) (b .stands .window) (b .ring i h l)
+      ap (λ (v : Window). qualifies v (ringSamples p i) i) (b .stands .window)
+      ∙ qualifies-near w (ringSamples p i) (more ss x) i (λ j u v. ring-sample p i j u ∙ b .ring j (omega arith) (omega arith))
 
   pub before-fit : Fit p k
   before-fit = stands-fit w ss k p (b .size) (b .slot) (b .moves) (b .stands)
@@ -185,7 +193,7 @@ module _ (w : Window) (ss : List Sample) (x : Sample) (k n : ℕ) (p : List ℕ)
             enters = omega (arith, count-step w ss (o .0) x, length-values w (more ss x));
             new = rw (h .new) (channel-storable x (b .range) (w .channel));
           };
-          sum = rw (b .stands .sum) (omega (arith, sum-bound w ss 100000000 (all-map (λ y r. channel-small y r (w .channel)) ss (b .ranges))));
+          sum = rw (b .stands .sum) (omega (arith, sum-bound w ss maxChannel (all-map (λ y r. channel-small y r (w .channel)) ss (b .ranges))));
         }
 
     -- what leaves, by the change
@@ -218,14 +226,14 @@ module _ (w : Window) (ss : List Sample) (x : Sample) (k n : ℕ) (p : List ℕ)
 
 -- slot k's window record, count and sum are as before; its list and its store of values are those of the window with the sample
 pub record Holds (w : Window) (ss : List Sample) (x : Sample) (k : ℕ) (p q : List ℕ) : Type 0 where
-  pub first : firstOf q k < 600
+  pub first : firstOf q k < listCapacity
   pub list : listOf q k ≡ held w (more ss x)
   pub store : w .function ≡ Percentile → valuesOf (storeIn (slotOf q k)) (length (values w (more ss x))) ≡ ordered (values w (more ss x))
   pub moves : movesOf q + heldIn (more ss x) w ≡ movesOf p + heldIn ss w + 2 * newEntry w ss x
 
 -- the range of the list and of the store, from the first place to the slot's end
 abbrev pub keptLen : ℕ
-keptLen = 2404
+keptLen = endsLen + storeLen
 
 pub record Kept (k n : ℕ) (c : Change) (p q : List ℕ) : Type 0 where
   pub beside : Beside k p q
@@ -269,20 +277,19 @@ module _ (k n : ℕ) (c : Change) (p : List ℕ) where
         let f = stands-function w ss (slotOf p k) (b .stands) _ code ∙ l .0 in
         (f, ap keepsEntries f ∙ l .1)
 
-    pub room-here : (w : Window) (ss : List Sample) (x : Sample) → Before w ss x k n p → length (aged (widthIn (slotOf p k)) n (listOf p k)) < 600
+    pub room-here : (w : Window) (ss : List Sample) (x : Sample) → Before w ss x k n p → length (aged (widthIn (slotOf p k)) n (listOf p k)) < listCapacity
     room-here w ss x b =
         rw (width-here w ss x k n p b, b .second, b .stands .list)
         (omega (arith, aged-length w ss (extreme-here w ss x b .1) (wide w ss x k n p b .0), wide w ss x k n p b .1))
 
-    pub kept-full : (v : ℕ) → v ≡ widthIn (slotOf p k) → (length (aged v n (listOf p k)) < 600 → ⊥) → Kept k n c p p
+    pub kept-full : (v : ℕ) → v ≡ widthIn (slotOf p k) → (length (aged v n (listOf p k)) < listCapacity → ⊥) → Kept k n c p p
     kept-full v e full = record { beside = beside-same k p; around = λ i m z. refl; on = λ w ss x b h. absurd (full (rw e (room-here w ss x b))) }
 
-    pub kept-list : (v : ℕ) (q : List ℕ) → v ≡ widthIn (slotOf p k)
-        → Became k p q (stepped v n (c .enters) (displacesIn largest (c .new) p k) (listOf p k)) (bit (c .enters)) → Kept k n c p q
+    pub kept-list : (v : ℕ) (q : List ℕ) → v ≡ widthIn (slotOf p k) → ListStepped k v n largest (c .new) (c .enters) p q → Kept k n c p q
     unfolding valueAt
     kept-list v q y t = record {
       beside = t .beside;
-      around = λ i m z. t .around i m (λ u v. z (omega arith) (omega arith));
+      around = around-in firstPlace listLen _ _ (t .around) firstPlace keptLen (omega arith) (omega arith);
       on = λ w ss x b h.
           let e = extreme-here w ss x b in
           let l : listOf q k ≡ held w (more ss x) =
@@ -303,10 +310,18 @@ module _ (k n : ℕ) (c : Change) (p : List ℕ) where
         other false g = let z : _≡_ {A = ℕ} 0 1 = cc in omega arith
 
         test : (w : Window) (ss : List Sample) (x : Sample) → Before w ss x k n p → Slides w ss x c → w .function ≡ extreme largest
-            → (i : ℕ) → i < length ss → length ss < i + w .width → displacesIn largest (c .new) p k i ≡ displaces (w .function) (channel (w .channel) x) (valueAt w ss i)
+            → (i : ℕ) → i < length ss → length ss < i + w .width
+            → displacesIn largest (c .new) p k i ≡ displaces (w .function) (channel (w .channel) x) (valueAt w ss i)
         test w ss x b h f i l m =
             unfold displacesIn in
             rw (f, h .new, value-here w ss x k n p b i (omega arith) (omega (arith, wide w ss x k n p b .1)), value-before w ss x i l) refl
+
+-- what a caller shows before slot k's store of m values is changed
+pub record Fillable (p : List ℕ) (k m : ℕ) (c : Change) : Type 0 where
+  pub size : length p ≡ partLen
+  pub slot : k < maxWindows
+  pub count : m ≡ countIn (slotOf p k)
+  pub room : Roomy m c
 
 -- values in order
 pub record Refilled (k : ℕ) (c : Change) (p q : List ℕ) : Type 0 where
@@ -320,17 +335,17 @@ store-lent p k a e f g =
     let n : e - a ≡ storeLen = omega arith in
     rw (n, f) (sym (part-part p (slotsPlace + slotLen * k) slotLen storePlace storeLen (omega arith)))
 
-pub refilled : (k m a : ℕ) (c : Change) (p q s ys : List ℕ) → length p ≡ partLen → k < 16 → a ≡ slotsPlace + slotLen * k + storePlace
+pub refilled : (k m a : ℕ) (c : Change) (p q s ys : List ℕ) → length p ≡ partLen → k < maxWindows → a ≡ slotsPlace + slotLen * k + storePlace
     → m ≡ countIn (slotOf p k) → s ≡ storeIn (slotOf p k) → q ≡ put p a ys → length ys ≡ storeLen → Restocked m c s ys → Refilled k c p q
 refilled k m a c p q s ys whole slot place count store e size r =
     let w : Written k storePlace ys p q = written k storePlace ys p q (omega arith) (rw place at e) in
     let here : storeIn (slotOf q k) ≡ ys = rw (w .here) (rw size at (part-same (slotOf p k) storePlace ys (omega (arith, slot-length p k whole slot)))) in
     record { written = rw here w; values = rw (here, ← count, ← store) r }
 
-pub kept-values : (k n : ℕ) (c : Change) (p q : List ℕ) → length p ≡ partLen → k < 16 → codeIn (slotOf p k) ≡ 5 → Refilled k c p q → Kept k n c p q
+pub kept-values : (k n : ℕ) (c : Change) (p q : List ℕ) → length p ≡ partLen → k < maxWindows → codeIn (slotOf p k) ≡ 5 → Refilled k c p q → Kept k n c p q
 kept-values k n c p q whole slot code r = record {
   beside = r .written .beside;
-  around = λ i m z. rest i m (λ u v. z (omega arith) (omega arith));
+  around = around-in storePlace storeLen _ _ rest firstPlace keptLen (omega arith) (omega arith);
   on = λ w ss x b h.
       let f : w .function ≡ Percentile = stands-function w ss (slotOf p k) (b .stands) _ code ∙ unfold functions in refl in
       let e : keepsEntries (w .function) ≡ false = ap keepsEntries f ∙ unfold keepsEntries in refl in
@@ -377,7 +392,8 @@ module _ (k n : ℕ) (p : List ℕ) where
       on = λ w ss x b.
           let s : Slides w ss x c = slides w ss x k n p b c read in
           let d : Holds w ss x k p p₁ = h .on w ss x b s in
-          let r : recordIn (slotOf q k) ≡ recordIn (slotOf p k) = t .around 0 16 (λ u v. omega arith) ∙ h .around 0 16 (λ u v. omega arith) in
+          let r : recordIn (slotOf q k) ≡ recordIn (slotOf p k) =
+          record-around countPlace totalsLen _ _ (t .around) (omega arith) ∙ record-around firstPlace keptLen _ _ (h .around) (omega arith) in
           let l : countIn (slotOf q k) ≡ length (values w (more ss x)) = t .count ∙ rw em (count-same w ss x k n p b c s) in
           record {
             stands = record {
@@ -385,8 +401,8 @@ module _ (k n : ℕ) (p : List ℕ) where
               layout = ap layoutKept r ∙ b .stands .layout;
               count = l;
               sum = t .sum ∙ rw ez (sum-same w ss x k n p b c s);
-              first = rw (le-around countPlace 12 (slotOf p₁ k) (slotOf q k) (t .around) 2 firstPlace (λ u v. omega arith)) (d .first);
-              list = list-around countPlace 12 (slotOf p₁ k) (slotOf q k) (t .around) (λ u v. omega arith) ∙ d .list;
+              first = rw (le-around countPlace totalsLen (slotOf p₁ k) (slotOf q k) (t .around) 2 firstPlace (λ u v. omega arith)) (d .first);
+              list = list-around countPlace totalsLen (slotOf p₁ k) (slotOf q k) (t .around) (λ u v. omega arith) ∙ d .list;
               store = λ g. ap₂ valuesOf (t .around storePlace storeLen (λ u v. omega arith)) l ∙ d .store g;
             };
             moves = rw (t .moves) (d .moves);

@@ -1,14 +1,14 @@
 -- All windows as one more sample comes, one after another; a new window; and the start.
 --     Midway, Sweeping         the first k windows have seen the sample; what the loop keeps
 --     sweep-start, sweep-on    its first turn and every other
---     Stepped, stepped         the whole step
+--     Steppable, Stepped, stepped     the whole step
 --     Added, added             a window is declared
 --     fresh                    a cleared part stands for no windows
 -- Assumes nothing.
 use mathlib.Core.Bool.{true}
 use mathlib.Core.List.{List, [], _∷_, _++_}
 use mathlib.Core.Path.{_≡_, refl, sym, ap, _∙_}
-use Prim.Native.Nat.{ℕ, _+_, _-_, _*_, _^_, _≤_, _<_}
+use Prim.Native.Nat.{ℕ, _+_, _*_, _^_, _≤_, _<_}
 use native.Mathlib.Decide.{ℕ-discrete}
 use native.Mathlib.Nat.{mul-le-mul}
 use native.Mathlib.Omega.{arith}
@@ -16,34 +16,35 @@ use lib.ListN.{length, take, drop, length-append, length-take, length-drop, List
 use lib.Seq.{getD-append-seam}
 use Rattle.field.specs.Cells.{cells}
 use Rattle.model.specs.Numbers.{leAt, sumℤ}
-use Rattle.model.specs.Records.{sampleOf, inRange, windowOf, layoutKept}
+use Rattle.model.specs.Records.{recordLength, maxSamples, maxWindows, sampleOf, inRange, windowOf, layoutKept, Window}
 use Rattle.model.specs.Windows.{sampleAt, moves}
 use Rattle.model.specs.declared.Sample.{Sample}
-use Rattle.model.specs.declared.Window.{Window}
 use Rattle.ordered.specs.Store.{valuesOf}
 use Rattle.slide.specs.Held.{held-start}
-use Rattle.slide.specs.Lists.{All, midway, total-bound}
+use Rattle.laws.specs.Lists.{All, midway, total-bound}
+use Rattle.record.specs.Ranges.{EachInRange}
 use Rattle.slide.specs.Moves.{entriesIn, length-entries, counted-moves, counted-start, moves-start, CountedTo, counted-first, counted-next, counted-last}
 use Rattle.slide.specs.Ordered.{ordered}
 use Rattle.slide.specs.Step.{more, length-more, sample-before, sample-new, values-start}
-use Rattle.slots.specs.Effects.{Stored, Declared, Cleared, Recounted, record-same, le-around}
-use Rattle.slots.specs.Layout.{partLen, recordOf, movesOf, slotOf, firstPlace, numberPlace}
-use Rattle.slots.specs.Lists.{list-none}
+use Rattle.slots.specs.Effects.{Stored, Declared, record-same, le-around}
+use Rattle.slots.specs.Layout.{partLen, ringSeconds, recordOf, movesOf, slotOf, firstPlace, numberPlace}
+use Rattle.lists.specs.Effects.{Cleared, Recounted}
+use Rattle.lists.specs.Lists.{list-none}
 use Rattle.window.specs.Slot.{Before, After, Turned}
 use Rattle.window.specs.Stand.{Stands, SlotStands, Unused, windowOfList}
 
 -- the first k windows have seen the sample x, which the ring has
 pub record Midway (ws : List Window) (ss : List Sample) (x : Sample) (n k : ℕ) (p : List ℕ) : Type 0 where
   pub size : length p ≡ partLen
-  pub windows : length ws ≤ 16
+  pub windows : length ws ≤ maxWindows
   pub second : n ≡ length ss
-  pub most : n ≤ 7200
-  pub ranges : All (λ s. inRange s ≡ true) ss
+  pub most : n < maxSamples
+  pub ranges : EachInRange ss
   pub range : inRange x ≡ true
-  pub ring : (i : ℕ) → i ≤ length ss → length ss < i + 610 → sampleOf (recordOf p i) ≡ sampleAt (more ss x) i
+  pub ring : (i : ℕ) → i ≤ length ss → length ss < i + ringSeconds → sampleOf (recordOf p i) ≡ sampleAt (more ss x) i
   pub done : (j : ℕ) → j < k → j < length ws → SlotStands (windowOfList ws j) (more ss x) (slotOf p j)
   pub waiting : (j : ℕ) → k ≤ j → j < length ws → SlotStands (windowOfList ws j) ss (slotOf p j)
-  pub unused : (j : ℕ) → length ws ≤ j → j < 16 → Unused (slotOf p j)
+  pub unused : (j : ℕ) → length ws ≤ j → j < maxWindows → Unused (slotOf p j)
   pub moves : CountedTo (movesOf p) k ws ss x
 
 -- what the loop over the windows keeps: from the part p₀ it began with to p, before window k's turn
@@ -53,11 +54,12 @@ pub record Sweeping (n windows k : ℕ) (p₀ p : List ℕ) : Type 0 where
   pub on : (ws : List Window) (ss : List Sample) (x : Sample) → Midway ws ss x n 0 p₀ → length ws ≡ windows → Midway ws ss x n k p
 
 -- the moves are far from their end
-midway-bound : {A : Type 0} (f g : A → ℕ) (m k : ℕ) (l : List A) → ((x : A) → f x ≤ m) → ((x : A) → g x ≤ m) → length l ≤ 16 → midway k f g l ≤ 16 * m + 16 * m
+midway-bound : {A : Type 0} (f g : A → ℕ) (m k : ℕ) (l : List A) → ((x : A) → f x ≤ m) → ((x : A) → g x ≤ m) → length l ≤ maxWindows
+    → midway k f g l ≤ maxWindows * m + maxWindows * m
 unfolding midway
 midway-bound f g m k l hf hg h =
-    let a : length (take k l) * m ≤ 16 * m = mul-le-mul (simp length-take (omega arith)) (omega arith) in
-    let b : length (drop k l) * m ≤ 16 * m = mul-le-mul (simp length-drop (omega arith)) (omega arith) in
+    let a : length (take k l) * m ≤ maxWindows * m = mul-le-mul (simp length-take (omega arith)) (omega arith) in
+    let b : length (drop k l) * m ≤ maxWindows * m = mul-le-mul (simp length-drop (omega arith)) (omega arith) in
     omega (arith, total-bound f m hf (take k l), total-bound g m hg (drop k l))
 
 module _ (ws : List Window) (ss : List Sample) (x : Sample) (n k : ℕ) (p : List ℕ) (m : Midway ws ss x n k p) where
@@ -66,7 +68,7 @@ module _ (ws : List Window) (ss : List Sample) (x : Sample) (n k : ℕ) (p : Lis
       omega (
         arith,
         m .moves,
-        midway-bound (entriesIn (more ss x)) (entriesIn ss) 7201 k ws
+        midway-bound (entriesIn (more ss x)) (entriesIn ss) maxSamples k ws
             (λ w. omega (arith, length-entries w (more ss x), length-more ss x, m .second, m .most))
             (λ w. omega (arith, length-entries w ss, m .second, m .most))
             (m .windows),
@@ -94,7 +96,7 @@ module _ (ws : List Window) (ss : List Sample) (x : Sample) (n k : ℕ) (p : Lis
         most = m .most;
         ranges = m .ranges;
         range = m .range;
-        ring = λ i u v. ap sampleOf (record-same p q i (t .beside .ring)) ∙ m .ring i u v;
+        ring = λ i u v. ap sampleOf (record-same p q i (t .beside .front)) ∙ m .ring i u v;
         done = λ j u v. done a j u v (ℕ-discrete j k);
         waiting = λ j u v. rw (t .beside .other j (λ e. omega arith)) (m .waiting j (omega arith) v);
         unused = λ j u v. rw (t .beside .other j (λ e. omega arith)) (m .unused j u v);
@@ -115,18 +117,25 @@ sweep-on n windows k p₀ p q s h t = record {
   on = λ ws ss x m l. midway-next ws ss x n k p (s .on ws ss x m l) q (omega arith) t;
 }
 
+-- what a caller of the step shows: the part, so many windows, second n and its record
+pub record Steppable (p : List ℕ) (w n : ℕ) (r : List ℕ) : Type 0 where
+  pub size : length p ≡ partLen
+  pub windows : w ≤ maxWindows
+  pub second : n < maxSamples
+  pub bytes : length r ≡ recordLength
+
 -- what one step makes of the part: what stood for some samples stands for them with the sample of record r
 pub record Stepped (windows n : ℕ) (r p q : List ℕ) : Type 0 where
   pub size : length q ≡ partLen
   pub on : (ws : List Window) (ss : List Sample) → Stands ws ss p → length ws ≡ windows → length ss ≡ n → inRange (sampleOf r) ≡ true
       → Stands ws (ss ++ (sampleOf r ∷ [])) q
 
-all-more : (ss : List Sample) (x : Sample) → All (λ s. inRange s ≡ true) ss → inRange x ≡ true → All (λ s. inRange s ≡ true) (more ss x)
+all-more : (ss : List Sample) (x : Sample) → EachInRange ss → inRange x ≡ true → EachInRange (more ss x)
 unfolding All
 all-more [] x a i = (i, tt)
 all-more (y ∷ ss) x a i = (a .0, all-more ss x (a .1) i)
 
-module _ (windows n : ℕ) (r p p₁ : List ℕ) (below : n ≤ 7200) (put : Stored n r p p₁) where
+module _ (windows n : ℕ) (r p p₁ : List ℕ) (below : n < maxSamples) (put : Stored n r p p₁) where
   stored-midway : (ws : List Window) (ss : List Sample) → Stands ws ss p → length ss ≡ n → inRange (sampleOf r) ≡ true → Midway ws ss (sampleOf r) n 0 p₁
   stored-midway ws ss s l i = record {
     size = put .size ∙ s .size;
@@ -142,7 +151,7 @@ module _ (windows n : ℕ) (r p p₁ : List ℕ) (below : n ≤ 7200) (put : Sto
     moves = rw (put .moves) (counted-first ws ss (sampleOf r) (movesOf p) (s .moves));
   }
     where
-      ring : (j : ℕ) → j ≤ length ss → length ss < j + 610 → Dec (j ≡ n) → sampleOf (recordOf p₁ j) ≡ sampleAt (more ss (sampleOf r)) j
+      ring : (j : ℕ) → j ≤ length ss → length ss < j + ringSeconds → Dec (j ≡ n) → sampleOf (recordOf p₁ j) ≡ sampleAt (more ss (sampleOf r)) j
       ring j u v (yes e) = rw e (ap sampleOf (put .here) ∙ sym (rw l at (sample-new ss (sampleOf r))))
       ring j u v (no e) =
           let h : j < length ss = omega arith in
@@ -187,7 +196,7 @@ declared-slot k r p q d n e =
     field : (a : ℕ) → firstPlace ≤ a → leAt 2 (slotOf q k) a ≡ leAt 2 (slotOf p k) a
     field a h = le-around 0 firstPlace (slotOf p k) (slotOf q k) (d .around) 2 a (λ x y. omega arith)
 
-pub added : (k : ℕ) (r p q : List ℕ) → length p ≡ partLen → k < 16 → Declared k r p q → Added k r p q
+pub added : (k : ℕ) (r p q : List ℕ) → length p ≡ partLen → k < maxWindows → Declared k r p q → Added k r p q
 added k r p q size slot d = record {
   size = d .beside .size ∙ size;
   on = λ ws s e l.
@@ -206,13 +215,14 @@ added k r p q size slot d = record {
   where
     slots : (ws : List Window) → Stands ws [] p → k ≡ length ws → layoutKept r ≡ true → (j : ℕ) → j < length ws + 1 → Dec (j ≡ k)
         → SlotStands (windowOfList (ws ++ (windowOf r ∷ [])) j) [] (slotOf q j)
-    slots ws s e l j u (yes f) = rw (f, e, getD-append-seam ws (windowOf r) [] (windowOf [])) (rw e at (declared-slot k r p q d (s .unused k (omega arith) slot) l))
+    slots ws s e l j u (yes f) =
+        rw (f, e, getD-append-seam ws (windowOf r) [] (windowOf [])) (rw e at (declared-slot k r p q d (s .unused k (omega arith) slot) l))
     slots ws s e l j u (no f) =
         let h : j < length ws = omega arith in
         rw (List·getD-append ws (windowOf r ∷ []) (windowOf []) j h, d .beside .other j f) (s .slots j h)
 
 -- a cleared part stands for no windows and no samples
-pub fresh : (p p₁ q : List ℕ) → length p ≡ partLen → Cleared 16 p p₁ → Recounted 0 p₁ q → Stands [] [] q
+pub fresh : (p p₁ q : List ℕ) → length p ≡ partLen → Cleared maxWindows p p₁ → Recounted 0 p₁ q → Stands [] [] q
 fresh p p₁ q size e c = record {
   size = c .size ∙ e .size ∙ size;
   windows = omega arith;

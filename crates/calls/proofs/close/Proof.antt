@@ -1,3 +1,4 @@
+-- `calls::close` meets its contract. Assumes nothing.
 use mathlib.Core.Path.{sym, _∙_}
 use borrow.Author.Needs.{needs}
 use Rattle.model.specs.Trip.{close}
@@ -15,8 +16,8 @@ returns-2 c = close-closed (search needs) (λ e. c .if2 .taken (c .before .mark 
 
 returns-3 : tie.Need-returns-3
 returns-3 c =
-    let m = c .before .before .before .before .before in
-    close-done (search needs) (search needs) (sym (m .mark .ensures) ∙ c .before .before .before .before .if2 .left) (c .before .before .set-mark .ensures)
+    let free = c .before .before .before .before in
+    close-done (search needs) (search needs) (sym (free .before .mark .ensures) ∙ free .if2 .left) (c .before .before .set-mark .ensures)
 
 pub close-spec : {M : Type 1} → statement M
 close-spec =

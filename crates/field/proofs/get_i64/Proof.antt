@@ -4,13 +4,13 @@ use mir.Syntax.{w64}
 use mir.ValLaws.{toZ-ofZ}
 use borrow.Author.Needs.{needs}
 use Rattle.model.specs.Numbers.{signed}
-use Rattle.field.specs.Twos.{twos}
 use Rattle.field.proofs.get_i64.Statement.{statement}
 use Rattle.field.proofs.get_i64.Tie as tie
 
 returns : tie.Need-returns
-unfolding signed twos
-returns c = toZ-ofZ w64 (c .of-bits .result) (record { sfits = c .of-bits .ok }) ∙ c .of-bits .ensures .0 ∙ ap (signed 8) (c .before .get-le .ensures .0)
+returns c =
+    let z = c .bits-i64 in
+    toZ-ofZ w64 (z .result) (record { sfits = z .ok }) ∙ z .ensures ∙ ap (signed 8) (c .before .get-le .ensures .0)
 
 pub get-i64-spec : {M : Type 1} → statement M
 get-i64-spec = tie.close (tie.spec (λ c κs. search needs) (λ c κs. search needs) returns)

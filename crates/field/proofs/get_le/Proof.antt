@@ -21,28 +21,29 @@ abbrev μ-loop : tie.MeasureT-loop
 loop-holds : tie.Need-loop-holds Inv-loop μ-loop
 loop-holds c = (search needs, rw (sub-self, le-zero), rw (sub-self, pow-zero) (omega arith))
 
-cast-b : tie.Need-cast-b Inv-loop μ-loop
-cast-b c = omega (arith, c .shared-slice-known .given (c .before .before .before .args .at + (c .before .before .loop .i - 1)))
-
 -- in a turn: the byte that is read, and what v is below
-byte : (c : tie.After-shared-slice-known Inv-loop μ-loop) → getD (now (c .before .before .before .args .s)) (c .before .before .before .args .at + (c .before .before .loop .i - 1)) 0 < 256
-byte c = omega (arith, c .shared-slice-known .given (c .before .before .before .args .at + (c .before .before .loop .i - 1)))
+byte : (c : tie.After-shared-slice-known Inv-loop μ-loop)
+    → let start = c .before .before .before in getD (now (start .args .s)) (start .args .at + (c .before .before .loop .i - 1)) 0 < 256
+byte c = let l = c .before .before in omega (arith, c .shared-slice-known .given (l .before .args .at + (l .loop .i - 1)))
 
 room : (c : tie.After-shared-slice-known Inv-loop μ-loop) → c .before .before .loop .v < 2 ^ 56
 room c = room-for-one _ _ (omega arith) (c .before .before .loop .inv .2)
 
+cast-b : tie.Need-cast-b Inv-loop μ-loop
+cast-b c = omega (arith, byte c)
+
 mul-v : tie.Need-mul-v Inv-loop μ-loop
-mul-v c = omega (arith, room c)
+mul-v c = omega (arith, room c, byte c)
 
 add-v : tie.Need-add-v Inv-loop μ-loop
 add-v c = omega (arith, room c, byte c)
 
 loop-again : tie.Need-loop-again Inv-loop μ-loop
-loop-again c = (
-  search needs,
-  le-down _ _ _ _ _ (c .before .loop-test .taken) (c .before .before .loop .inv .0) (c .before .before .before .pre .0) (c .before .before .loop .inv .1),
-  down-below _ _ _ _ (c .before .loop-test .taken) (c .before .before .loop .inv .0) (c .before .before .loop .inv .2) (byte c),
-)
+loop-again c =
+    let more = c .before .loop-test .taken in
+    let l = c .before .before in
+    let v = le-down _ _ _ _ _ more (l .loop .inv .0) (l .before .pre .0) (l .loop .inv .1) in
+    (search needs, v, down-below _ _ _ _ more (l .loop .inv .0) (l .loop .inv .2) (byte c))
 
 returns : tie.Need-returns Inv-loop μ-loop
 returns c =

@@ -9,8 +9,10 @@ use Rattle.field.proofs.put_i64.Tie as tie
 
 returns : tie.Need-returns
 returns c =
-    let start = c .before .before .before .before .before .before in
-    c .before .before .put-le .ensures ∙ ap (putLe 8 _ _) (rw (toZ-ofZ w64 (start .args .v) (start .fits .v)) at (c .before .before .before .to-bits .ensures))
+    let bits = c .before .before .before in
+    let start = bits .before .before .before in
+    let e = rw (toZ-ofZ w64 (start .args .v) (start .fits .v)) at (bits .i64-bits .ensures) in
+    c .before .before .put-le .ensures ∙ ap (putLe 8 _ _) e
 
 pub put-i64-spec : {M : Type 1} → statement M
 put-i64-spec =

@@ -1,6 +1,6 @@
 -- `field::put_le` meets its contract. What is left to write, written over the slice as it is, gives what is to be given. Assumes nothing.
 use mathlib.Core.Path.{_≡_, refl, _∙_}
-use Prim.Native.Nat.{_+_, _-_, _≤_}
+use Prim.Native.Nat.{_+_, _≤_}
 use native.Mathlib.Omega.{arith}
 use borrow.Author.Needs.{needs}
 use lib.ListN.{length, length-set}

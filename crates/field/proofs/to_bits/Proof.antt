@@ -11,28 +11,34 @@ use Rattle.field.proofs.to_bits.Statement.{statement}
 use Rattle.field.proofs.to_bits.Tie as tie
 
 below : (c : tie.Then1) → ltZ (c .before .args .v) (pos 0) ≡ true
-below c = rw (toZ-ofZ w64 (c .before .args .v) (c .before .fits .v)) at (c .if1 .taken)
+below c = let f = c .before .fits .v in simp toZ-ofZ at (c .if1 .taken)
 
 above : (c : tie.Else1) → ltZ (c .before .args .v) (pos 0) ≡ false
-above c = rw (toZ-ofZ w64 (c .before .args .v) (c .before .fits .v)) at (c .if1 .left)
+above c = let f = c .before .fits .v in simp toZ-ofZ at (c .if1 .left)
 
 sub-result : tie.Need-sub-result
-sub-result c = rw (toZ-ofZ w64 (c .before .args .v) (c .before .fits .v)) (flip-fits (c .before .args .v) (c .before .fits .v) (below c))
+sub-result c = let s = c .before in rw (toZ-ofZ w64 (s .args .v) (s .fits .v)) (flip-fits (s .args .v) (s .fits .v) (below c))
 
 cast-result : tie.Need-cast-result
-cast-result c = rw (toZ-ofZ w64 (c .before .args .v) (c .before .fits .v), flip (c .before .args .v) (c .before .fits .v) (below c)) (tt, omega (arith, c .before .fits .v .sfits))
+cast-result c =
+    let s = c .before in
+    rw (toZ-ofZ w64 (s .args .v) (s .fits .v), flip (s .args .v) (s .fits .v) (below c)) (tt, omega (arith, s .fits .v .sfits))
 
 sub-result-2 : tie.Need-sub-result-2
-sub-result-2 c = rw (toZ-ofZ w64 (c .before .args .v) (c .before .fits .v), flip (c .before .args .v) (c .before .fits .v) (below c)) (omega (arith, c .before .fits .v .sfits))
+sub-result-2 c =
+    let s = c .before in
+    rw (toZ-ofZ w64 (s .args .v) (s .fits .v), flip (s .args .v) (s .fits .v) (below c)) (s .pre)
 
 cast-result-2 : tie.Need-cast-result-2
-cast-result-2 c = rw (toZ-ofZ w64 (c .before .args .v) (c .before .fits .v)) (keep (c .before .args .v) (c .before .fits .v) (above c))
+cast-result-2 c = let s = c .before in rw (toZ-ofZ w64 (s .args .v) (s .fits .v)) (keep (s .args .v) (s .fits .v) (above c))
 
 returns : tie.Need-returns
-returns c = rw (toZ-ofZ w64 (c .before .args .v) (c .before .fits .v), flip (c .before .args .v) (c .before .fits .v) (below c)) (flip-bits (c .before .args .v) (c .before .fits .v) (below c))
+returns c =
+    let s = c .before in
+    rw (toZ-ofZ w64 (s .args .v) (s .fits .v), flip (s .args .v) (s .fits .v) (below c)) (flip-bits (s .args .v) (s .args .most) (below c))
 
 returns-2 : tie.Need-returns-2
-returns-2 c = rw (toZ-ofZ w64 (c .before .args .v) (c .before .fits .v)) (keep-bits (c .before .args .v) (above c))
+returns-2 c = let s = c .before in rw (toZ-ofZ w64 (s .args .v) (s .fits .v)) (keep-bits (s .args .v) (s .args .most) (above c))
 
 pub to-bits-spec : {M : Type 1} → statement M
 to-bits-spec =

@@ -11,19 +11,23 @@ use Rattle.limits.proofs.class_of.Tie as tie
 
 returns : tie.Need-returns
 unfolding figure row classOf
-returns c = rw (le-leb (tenths (c .before .before .before .before .args .v)) 600 (omega (arith, c .before .before .before .upper .ensures)))
+returns c = let u = c .before .before .before in rw (le-leb (tenths (u .before .args .v)) 600 (omega (arith, u .upper .ensures)))
 
 returns-2 : tie.Need-returns-2
 unfolding figure row classOf
 returns-2 c =
-    let v : ℕ = tenths (c .before .before .before .before .before .before .before .before .args .v) in
-    rw (lt-leb v 600 (omega (arith, c .before .before .before .before .before .before .before .upper .ensures)), le-leb v 900 (omega (arith, c .before .before .before .upper2 .ensures)))
+    let r = c .before .before .before in
+    let u = r .before .before .before .before in
+    let v : ℕ = tenths (u .before .args .v) in
+    rw (lt-leb v 600 (omega (arith, u .upper .ensures)), le-leb v 900 (omega (arith, r .upper2 .ensures)))
 
 returns-3 : tie.Need-returns-3
 unfolding figure row classOf
 returns-3 c =
-    let v : ℕ = tenths (c .before .before .before .before .before .before .before .before .args .v) in
-    rw (lt-leb v 600 (omega (arith, c .before .before .before .before .before .before .before .upper .ensures)), lt-leb v 900 (omega (arith, c .before .before .before .upper2 .ensures)))
+    let r = c .before .before .before in
+    let u = r .before .before .before .before in
+    let v : ℕ = tenths (u .before .args .v) in
+    rw (lt-leb v 600 (omega (arith, u .upper .ensures)), lt-leb v 900 (omega (arith, r .upper2 .ensures)))
 
 pub class-of-spec : {M : Type 1} → statement M
 class-of-spec = tie.close (tie.spec (λ c κs. search needs) returns (λ c κs. search needs) returns-2 returns-3)

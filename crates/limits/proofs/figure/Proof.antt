@@ -23,7 +23,9 @@ at-row Motorway j h = getD-append-add (row Urban ++ row Rural) (row Motorway) j 
 
 returns : tie.Need-returns
 unfolding table figure row lines
-returns c = ap (λ (i : ℕ). getD table (9 * i + c .before .args .j) 0) (c .class-index .ensures .0) ∙ at-row (c .before .args .c) (c .before .args .j) (c .before .pre)
+returns c =
+    let x = c .before .args in
+    ap (λ (i : ℕ). getD table (9 * i + x .j) 0) (c .class-index .ensures .0) ∙ at-row (x .c) (x .j) (c .before .pre)
 
 pub figure-spec : {M : Type 1} → statement M
 figure-spec = tie.close (tie.spec (λ c κs. search needs) (λ c. search needs) (λ c. search needs) (λ c. search needs) (λ c. search needs) returns)

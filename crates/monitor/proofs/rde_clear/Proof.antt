@@ -1,10 +1,13 @@
+-- `monitor::rde_clear` meets its contract. Assumes nothing.
 use Rattle.monitor.proofs.Laws.{stepped}
 use borrow.Author.Needs.{needs}
 use Rattle.monitor.proofs.rde_clear.Statement.{statement}
 use Rattle.monitor.proofs.rde_clear.Tie as tie
 
 returns : tie.Need-returns
-returns c = stepped (c .before .before .before .clear .result) (c .reply .ensures) (c .before .before .before .clear .ensures)
+returns c =
+    let told = c .before .before .before in
+    stepped (told .clear .result) (c .reply .ensures) (told .clear .ensures)
 
 pub rde-clear-spec : {M : Type 1} → statement M
 rde-clear-spec =

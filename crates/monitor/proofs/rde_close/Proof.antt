@@ -1,10 +1,13 @@
+-- `monitor::rde_close` meets its contract. Assumes nothing.
 use Rattle.monitor.proofs.Laws.{stepped}
 use borrow.Author.Needs.{needs}
 use Rattle.monitor.proofs.rde_close.Statement.{statement}
 use Rattle.monitor.proofs.rde_close.Tie as tie
 
 returns : tie.Need-returns
-returns c = stepped (c .before .before .before .close .result) (c .reply .ensures) (c .before .before .before .close .ensures)
+returns c =
+    let told = c .before .before .before in
+    stepped (told .close .result) (c .reply .ensures) (told .close .ensures)
 
 pub rde-close-spec : {M : Type 1} → statement M
 rde-close-spec =

@@ -1,10 +1,13 @@
+-- `monitor::rde_declare` meets its contract. Assumes nothing.
 use Rattle.monitor.proofs.Laws.{stepped}
 use borrow.Author.Needs.{needs}
 use Rattle.monitor.proofs.rde_declare.Statement.{statement}
 use Rattle.monitor.proofs.rde_declare.Tie as tie
 
 returns : tie.Need-returns
-returns c = stepped (c .before .before .before .declare .result) (c .reply .ensures) (c .before .before .before .declare .ensures)
+returns c =
+    let told = c .before .before .before in
+    stepped (told .declare .result) (c .reply .ensures) (told .declare .ensures)
 
 pub rde-declare-spec : {M : Type 1} → statement M
 rde-declare-spec =

@@ -1,3 +1,4 @@
+-- `monitor::rde_read` meets its contract. Assumes nothing.
 use Rattle.monitor.proofs.Laws.{stepped}
 use borrow.Author.Needs.{needs}
 use Rattle.monitor.proofs.rde_read.Statement.{statement}

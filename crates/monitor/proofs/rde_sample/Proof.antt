@@ -1,10 +1,13 @@
+-- `monitor::rde_sample` meets its contract. Assumes nothing.
 use Rattle.monitor.proofs.Laws.{stepped}
 use borrow.Author.Needs.{needs}
 use Rattle.monitor.proofs.rde_sample.Statement.{statement}
 use Rattle.monitor.proofs.rde_sample.Tie as tie
 
 returns : tie.Need-returns
-returns c = stepped (c .before .before .before .sample .result) (c .reply .ensures) (c .before .before .before .sample .ensures)
+returns c =
+    let told = c .before .before .before in
+    stepped (told .sample .result) (c .reply .ensures) (told .sample .ensures)
 
 pub rde-sample-spec : {M : Type 1} → statement M
 rde-sample-spec =

@@ -1,3 +1,4 @@
+-- `monitor::rde_verdict` meets its contract. Assumes nothing.
 use Rattle.monitor.proofs.Laws.{judged}
 use borrow.Author.Needs.{needs}
 use Rattle.monitor.proofs.rde_verdict.Statement.{statement}

@@ -1,3 +1,4 @@
+-- `monitor::reply` meets its contract. Assumes nothing.
 use mathlib.Core.Path.{ap, sym}
 use mir.Syntax.{w64}
 use mir.Val.{SFits}

@@ -1,3 +1,4 @@
+-- `monitor::verdict_reply` meets its contract. Assumes nothing.
 use mathlib.Core.Path.{ap, sym, _∙_}
 use Rattle.monitor.specs.Reply.{verdictReplyOf}
 use borrow.Author.Needs.{needs}

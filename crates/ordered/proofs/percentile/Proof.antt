@@ -11,7 +11,9 @@ use Rattle.ordered.proofs.percentile.Statement.{statement}
 use Rattle.ordered.proofs.percentile.Tie as tie
 
 returns : tie.Need-returns
-returns c = let a = c .before .before .args in toZ-ofZ w64 (c .at .result) (record { sfits = c .at .ok }) ∙ c .at .ensures .0 ∙ sym (values-at _ (a .m) (rank (a .m)) (pos 0) (omega arith))
+returns c =
+    let m = c .before .before .args .m in
+    toZ-ofZ w64 (c .at .result) (record { sfits = c .at .ok }) ∙ c .at .ensures .0 ∙ sym (values-at _ m (rank m) (pos 0) (omega arith))
 
 pub percentile-spec : {M : Type 1} → statement M
 percentile-spec =

@@ -4,7 +4,7 @@ use Prim.Native.Nat.{_-_, _<_}
 use native.Mathlib.Omega.{arith}
 use borrow.Author.Needs.{needs}
 use lib.ListN.{length}
-use Rattle.slide.specs.Lists.{without}
+use Rattle.laws.specs.Lists.{without}
 use Rattle.ordered.specs.Store.{valuesOf}
 use Rattle.ordered.proofs.Shift.{down-turn, down-end}
 use Rattle.ordered.proofs.shift_down.Statement.{statement}
@@ -17,10 +17,15 @@ abbrev μ-loop : tie.MeasureT-loop
 μ-loop store₀ m p i₀ store i = m - i
 
 loop-again : tie.Need-loop-again Inv-loop μ-loop
-loop-again c = let l = c .before .before .before .before .before .before .before .loop in
-    let g = c .before .before .before .before .get-u32 in
-    let w = c .before .before .put-u32 in
-    (omega arith, w .kept .0 ∙ l .inv .1, down-turn (l .store) _ _ (l .i) (g .result) (omega arith) (omega arith) (g .ok) (g .ensures) (w .ensures) ∙ l .inv .2)
+loop-again c =
+    let got = c .before .before .before .before in
+    let l = got .before .before .before .loop in
+    let g = got .get-u32 in
+    let w = c .before .before .put-u32 in (
+      omega arith,
+      w .kept .0 ∙ l .inv .1,
+      down-turn (l .store) _ _ (l .i) (g .result) (omega arith) (omega arith) (g .ok) (g .ensures) (w .ensures) ∙ l .inv .2,
+    )
 
 returns : tie.Need-returns Inv-loop μ-loop
 returns c = sym (down-end _ _ _ (omega arith) (omega arith)) ∙ c .before .loop .inv .2

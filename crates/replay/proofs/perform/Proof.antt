@@ -5,12 +5,14 @@ use native.Mathlib.Omega.{arith}
 use borrow.Author.Needs.{needs}
 use denote.Ref.{now}
 use lib.ListN.{length, getD}
-use Rattle.replay.proofs.Place.{inside, length-at, first-at}
+use Rattle.replay.proofs.Place.{ready-whole, inside, length-at, first-at}
 use Rattle.replay.proofs.perform.Statement.{statement}
 use Rattle.replay.proofs.perform.Tie as tie
 
 in-script : (s : tie.Start) → s .args .from + 2 + getD (now (s .args .script)) (s .args .from + 1) 0 ≤ length (now (s .args .script))
-in-script s = rw length-at at (inside (now (s .args .script)) (s .args .from) (s .pre .1) (s .pre .0))
+in-script s =
+    let x = s .args in
+    rw length-at at (inside (now (x .script)) (x .from) (ready-whole (now (x .script)) (x .from) (s .pre .1)) (s .pre .0))
 
 returns : tie.Need-returns
 returns c =

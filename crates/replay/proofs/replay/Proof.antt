@@ -5,7 +5,7 @@ use Prim.Native.Nat.{_-_}
 use borrow.Author.Needs.{needs}
 use lib.ListN.{length, drop}
 use denote.Ref.{now}
-use Rattle.replay.specs.Script.{whole}
+use Rattle.replay.specs.Script.{ready}
 use Rattle.replay.proofs.Going.{Going, going-start, going-more, closer, full, spent}
 use Rattle.replay.proofs.replay.Statement.{statement}
 use Rattle.replay.proofs.replay.Tie as tie
@@ -17,7 +17,7 @@ abbrev μ-loop : tie.MeasureT-loop
 μ-loop area₀ script out₀ from₀ made₀ written₀ area out from made written = length script - from
 
 -- the loop's test
-found : (t : tie.Then1 Inv-loop μ-loop) → whole (drop (t .before .before .loop .from) (now (t .before .before .before .before .before .before .args .script))) ≡ true
+found : (t : tie.Then1 Inv-loop μ-loop) → ready (drop (t .before .before .loop .from) (now (t .before .before .before .before .before .before .args .script))) ≡ true
 found t = sym (t .before .has-call .ensures) ∙ t .if1 .taken
 
 returns : tie.Need-returns Inv-loop μ-loop
@@ -39,10 +39,12 @@ loop-again c =
     going-more (t .before .before .loop .inv) (found t) (p .perform .ensures .1) (p .perform .ensures .0) (search needs) (search needs) (search needs)
 
 returns-2 : tie.Need-returns-2 Inv-loop μ-loop
-returns-2 c = spent (c .before .before .loop .inv) (sym (c .before .has-call .ensures) ∙ c .if1 .left)
+returns-2 c =
+    let left = c .before in
+    spent (left .before .before .loop .inv) (sym (left .before .has-call .ensures) ∙ left .if1 .left) _ (c .is-whole .ensures)
 
 pub replay-spec : {M : Type 1} → statement M
 replay-spec =
     tie.close
     (tie.spec Inv-loop μ-loop (λ c. going-start _ _ _) (λ c κs. search needs) (λ c. search needs) (λ c. search needs) (λ c. search needs) returns
-    perform-requires (λ c. search needs) (λ c. search needs) loop-less loop-again (λ c. search needs) (λ c. search needs) returns-2)
+    perform-requires (λ c. search needs) (λ c. search needs) loop-less loop-again (λ c κs. search needs) (λ c. search needs) (λ c. search needs) returns-2)

@@ -1,13 +1,12 @@
 -- `rule::bits` meets its contract: the three bits. Assumes nothing.
 use native.Mathlib.Omega.{arith}
 use Rattle.model.specs.Verdicts.{mask}
-use Rattle.rule.specs.Broken.{brokenBy}
 use borrow.Author.Needs.{needs}
 use Rattle.rule.proofs.bits.Statement.{statement}
 use Rattle.rule.proofs.bits.Tie as tie
 
 returns : tie.Need-returns
-unfolding mask brokenBy
+unfolding mask
 returns c = (omega arith, omega arith)
 
 pub bits-spec : {M : Type 1} → statement M

@@ -1,13 +1,12 @@
 -- `rule::count_rules` meets its contract: rules 11 to 14. Assumes nothing.
 use native.Mathlib.Omega.{arith}
 use Rattle.model.specs.Verdicts.{mask}
-use Rattle.rule.specs.Broken.{brokenBy}
 use borrow.Author.Needs.{needs}
 use Rattle.rule.proofs.count_rules.Statement.{statement}
 use Rattle.rule.proofs.count_rules.Tie as tie
 
 returns : tie.Need-returns
-unfolding mask brokenBy
+unfolding mask
 returns c = (omega arith, omega arith)
 
 pub count-rules-spec : {M : Type 1} → statement M

@@ -1,6 +1,6 @@
 -- `rule::urban_rules` meets its contract: rules 8 to 10. Assumes nothing.
 use mathlib.Core.Path.{refl, _∙_}
-use Rattle.rule.specs.Broken.{three}
+use Rattle.rule.specs.TallyRules.{three}
 use borrow.Author.Needs.{needs}
 use Rattle.rule.proofs.urban_rules.Statement.{statement}
 use Rattle.rule.proofs.urban_rules.Tie as tie

@@ -1,3 +1,4 @@
+-- `slots::declare_slot` meets its contract. Assumes nothing.
 use borrow.Author.Needs.{needs}
 use Rattle.slots.specs.Effects.{declared}
 use Rattle.slots.proofs.declare_slot.Statement.{statement}

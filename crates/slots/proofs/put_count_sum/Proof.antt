@@ -1,3 +1,4 @@
+-- `slots::put_count_sum` meets its contract. Assumes nothing.
 use native.Mathlib.Omega.{arith}
 use borrow.Author.Needs.{needs}
 use mir.Syntax.{w64}
@@ -8,8 +9,9 @@ use Rattle.slots.proofs.put_count_sum.Tie as tie
 
 returns : tie.Need-returns
 returns c =
-    let start = c .before .before .before .before .before .before .before .before .before in
-    totalled _ _ _ _ _ _ (search needs) (search needs) (omega arith) (start .fits .sum) (c .before .before .before .before .before .before .slot-put .ensures)
+    let counted = c .before .before .before .before .before .before in
+    let start = counted .before .before .before in
+    totalled _ _ _ _ _ _ (search needs) (search needs) (omega arith) (start .fits .sum) (counted .slot-put .ensures)
     (written-le 8 _ _ _ _ _ (omega arith) (rw (toZ-ofZ w64 (start .args .sum) (start .fits .sum)) at (c .before .before .put-i64 .ensures)))
 
 pub put-count-sum-spec : {M : Type 1} → statement M

@@ -1,3 +1,4 @@
+-- `slots::slot_put` meets its contract. Assumes nothing.
 use native.Mathlib.Omega.{arith}
 use borrow.Author.Needs.{needs}
 use Rattle.slots.specs.Effects.{written-le}

@@ -12,7 +12,9 @@ returns-2 : tie.Need-returns-2
 returns-2 c = room-young _ _ _ _ (omega (arith, c .before .before .number .ensures)) (omega arith)
 
 returns-3 : tie.Need-returns-3
-returns-3 c = room-first _ _ _ _ (omega (arith, c .before .before .before .number .ensures)) _ (c .before .before .before .before .before .pre .number) (omega arith) (c .entry .ensures)
+returns-3 c =
+    let numbered = c .before .before .before in
+    room-first _ _ _ _ (omega (arith, numbered .number .ensures)) _ (numbered .before .before .pre .number) (omega arith) (c .entry .ensures)
 
 pub has-room-spec : {M : Type 1} → statement M
 has-room-spec =

@@ -6,10 +6,15 @@ use Rattle.window.specs.Slot.{kept-values, kept-plain}
 use Rattle.window.proofs.keep.Tie as tie
 
 returns-3 : tie.Need-returns-3
-returns-3 c = kept-values _ _ _ _ _ (c .before .before .before .before .before .before .before .before .pre .0 .ready .size) (c .before .before .before .before .before .before .before .before .pre .0 .ready .slot) (sym (c .before .before .before .before .before .code .ensures) ∙ c .before .before .before .before .match .keys3) (c .before .before .keep-values .ensures)
+returns-3 c =
+    let matched = c .before .before .before .before in
+    let coded = matched .before in
+    let ready = coded .before .before .before .pre .0 .ready in
+    kept-values _ _ _ _ _ (ready .size) (ready .slot) (sym (coded .code .ensures) ∙ matched .match .keys3) (c .before .before .keep-values .ensures)
 
 returns-4 : tie.Need-returns-4
-returns-4 c = let r = c .match .rest in
+returns-4 c =
+    let r = c .match .rest in
     let e = c .before .code .ensures in
     kept-plain _ _ _ _ (λ h. r .0 .0 .1 (e ∙ h)) (λ h. r .0 .1 (e ∙ h)) (λ h. r .1 (e ∙ h))
 

@@ -5,7 +5,10 @@ use Rattle.window.specs.Sweep.{stepped}
 use Rattle.window.proofs.step.Tie as tie
 
 returns : tie.Need-returns
-returns c = stepped _ _ _ _ _ (c .before .before .before .before .before .before .before .before .before .before .pre .2) (c .before .before .before .before .before .before .store-record .ensures) _ (c .before .before .sweep .ensures)
+returns c =
+    let stored = c .before .before .before .before .before .before in
+    let start = stored .before .before .before .before in
+    stepped _ _ _ _ _ (start .pre .second) (stored .store-record .ensures) _ (c .before .before .sweep .ensures)
 
 pub step-spec : {M : Type 1} → statement M
 step-spec =

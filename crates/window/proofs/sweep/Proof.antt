@@ -17,10 +17,15 @@ loop-holds : tie.Need-loop-holds Inv-loop μ-loop
 loop-holds c = sweep-start _ _ _ (search needs)
 
 loop-again : tie.Need-loop-again Inv-loop μ-loop
-loop-again c = sweep-on _ _ _ _ _ _ (c .before .before .before .before .before .loop .inv) (search needs) (c .before .before .turn .ensures)
+loop-again c =
+    let turned = c .before .before in
+    sweep-on _ _ _ _ _ _ (turned .before .before .before .loop .inv) (search needs) (turned .turn .ensures)
 
 returns : tie.Need-returns Inv-loop μ-loop
-returns c = let e : c .before .loop .k ≡ c .before .before .before .args .windows = omega (arith, c .before .loop .inv .turns) in rw e at (c .before .loop .inv)
+returns c =
+    let turn = c .before in
+    let e : turn .loop .k ≡ turn .before .before .args .windows = omega (arith, turn .loop .inv .turns) in
+    rw e at (turn .loop .inv)
 
 pub sweep-spec : {M : Type 1} → statement M
 sweep-spec =

@@ -32,10 +32,12 @@ roll-requires c κs =
     let tested = c .before .before .before .before .before in
     let change = tested .before .before .before .before .before .before in
     let start = change .before .before .before .before .before .before in
-    let h = change .read-change .ensures in (
-      (c .before .before .before .keep .kept .0 ∙ start .pre .0, start .pre .1),
-      (tested .before .rollable .ensures .sound (not-false _ (tested .if2 .left)), h .old-small, h .new-small),
-    )
+    record {
+      size = c .before .before .before .keep .kept .0 ∙ start .pre .0;
+      slot = start .pre .1;
+      rollable = (tested .before .rollable .ensures .sound (not-false _ (tested .if2 .left)));
+      small = change .read-change .ensures .small;
+    }
 
 returns-3 : tie.Need-returns-3
 returns-3 c =

@@ -1,0 +1,49 @@
+-- What the code tests of a list, as its numbers come, is what the definitions say. Assumes nothing.
+use mathlib.Core.Path.{_≡_, refl}
+use mathlib.Core.Bool.{Bool, true, false, cond, _&&_}
+use mathlib.Core.List.{List}
+use Prim.Native.Nat.{ℕ, _^_, _≤_, _<_}
+use native.Mathlib.Omega.{arith}
+use borrow.Author.Tests.{ltb-true, leb-true, lt-ltb, le-leb}
+use lib.Dec.{leb, ltb}
+use lib.IntN.{ℤ}
+use lib.ListN.{length}
+use lib.Signed.{leZ}
+use mir.Syntax.{w64}
+use mir.Val.{SFits, toZ, ofZ}
+use mir.ValLaws.{toZ-ofZ}
+use Rattle.model.specs.Records.{maxWindows}
+use Rattle.model.specs.Windows.{displaces}
+use Rattle.laws.specs.Tests.{both}
+use Rattle.slots.specs.Layout.{partLen, listCapacity, movesOf, firstOf, numberOf, valueIn}
+use Rattle.lists.specs.Steps.{displacesIn, Fitness}
+
+module _ (p : List ℕ) (k s : ℕ) where
+  pub displaced-is : (b largest : Bool) (new z : ℤ) → largest ≡ b → z ≡ valueIn p k s → SFits w64 new → SFits w64 z
+      → cond b (leZ (toZ w64 (ofZ w64 z)) (toZ w64 (ofZ w64 new))) (leZ (toZ w64 (ofZ w64 new)) (toZ w64 (ofZ w64 z))) ≡ displacesIn largest new p k s
+  unfolding displacesIn displaces
+  displaced-is true largest new z e v fn fz = rw (toZ-ofZ w64 z fz, toZ-ofZ w64 new fn, e, v) refl
+  displaced-is false largest new z e v fn fz = rw (toZ-ofZ w64 z fz, toZ-ofZ w64 new fn, e, v) refl
+
+-- the tests of the numbers that a list is kept by
+module _ (f n m : ℕ) where
+  abbrev tests : Bool
+  tests = ltb f listCapacity && (leb n listCapacity && leb m (2 ^ 62))
+
+  passed : tests ≡ true → (f < listCapacity) × (n ≤ listCapacity) × (m ≤ 2 ^ 62)
+  passed t =
+      let x = both (ltb f listCapacity) (leb n listCapacity && leb m (2 ^ 62)) t in
+      let y = both (leb n listCapacity) (leb m (2 ^ 62)) (x .1) in
+      (ltb-true f listCapacity (x .0), leb-true n listCapacity (y .0), leb-true m (2 ^ 62) (y .1))
+
+  pub fitness : (p : List ℕ) (k : ℕ) → length p ≡ partLen → k < maxWindows → f ≡ firstOf p k → n ≡ numberOf p k → m ≡ movesOf p
+      → Fitness p k (ltb f listCapacity && (leb n listCapacity && leb m (2 ^ 62)))
+  fitness p k size slot ef en em = record {
+    sound = λ t. let h = passed t in record { ready = record { size = size; slot = slot; first = omega arith }; number = omega arith; room = omega arith };
+    far = λ t. let h = passed t in omega arith;
+    complete = λ g h.
+        let a : f < listCapacity = omega (arith, g .ready .first) in
+        let b : n ≤ listCapacity = omega (arith, g .number) in
+        let c : m ≤ 2 ^ 62 = omega arith in
+        rw (lt-ltb f listCapacity a, le-leb n listCapacity b, le-leb m (2 ^ 62) c) refl;
+  }

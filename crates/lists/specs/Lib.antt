@@ -1,0 +1,5 @@
+-- The lists of held entries, with counted moves.
+pub mod Effects
+pub mod Circular
+pub mod Lists
+pub mod Steps

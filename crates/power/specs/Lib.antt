@@ -1,0 +1,3 @@
+pub mod Speeds
+pub mod Counts
+pub mod Dynamics

@@ -1,0 +1,3 @@
+-- What the windows read, and whether their part is sound.
+pub mod Read
+pub mod Sound

@@ -1,0 +1,2 @@
+-- One sample more in a window's count, sum and values in order.
+pub mod Change

@@ -1,0 +1,52 @@
+-- What taking a sample does to the area's parts, and what it promises. Assumes nothing.
+use mathlib.Core.List.{List}
+use mathlib.Core.Bool.{true}
+use mathlib.Core.Path.{_≡_}
+use Prim.Native.Nat.{ℕ, _+_, _<_}
+use native.Mathlib.Omega.{arith}
+use lib.IntN.{ℤ}
+use lib.ListN.{length}
+use Rattle.model.specs.declared.Sample.{Sample}
+use Rattle.model.specs.declared.Speed.{Speed}
+use Rattle.model.specs.declared.Tally.{Tally}
+use Rattle.model.specs.declared.Verdict.{Verdict}
+use Rattle.model.specs.Records.{recordLength, maxSamples, sampleOf, inRange}
+use Rattle.model.specs.Tallies.{tallyBytes, tallyFrom}
+use Rattle.model.specs.Trip.{Trip, Answer, number, judged, refused}
+use Rattle.power.specs.Speeds.{Appended}
+use Rattle.tally.specs.Add.{added}
+use Rattle.window.specs.Sweep.{Stepped}
+use Rattle.area.specs.Layout.{areaLen, Parts, partsOf, sampleCount, closedMark, windowCount, tallyIn, speedsIn, slotsIn}
+use Rattle.area.specs.Stands.{Stands}
+use Rattle.area_windows.specs.Effects.{CountedMoves}
+
+-- the sample of second n is taken: the tally, the windows, the speeds and the number of samples are new
+pub record Taken (k n : ℕ) (r : List ℕ) (v : Speed) (t : Tally) (p q : Parts) : Type 0 where
+  pub mark : closedMark q ≡ closedMark p
+  pub windows : windowCount q ≡ windowCount p
+  pub tally : tallyIn q ≡ tallyBytes t
+  pub samples : sampleCount q ≡ n + 1
+  pub added : Appended n v (speedsIn p) (speedsIn q)
+  pub stepped : Stepped k n r (slotsIn p) (slotsIn q)
+
+-- what is known once the refusals before it are not given: s is the sample of the record r, and its turn, n, has come
+pub record Taking (area r : List ℕ) (s : Sample) (n : ℕ) : Type 0 where
+  pub size : length area ≡ areaLen
+  pub bytes : length r ≡ recordLength
+  pub room : n < maxSamples
+  pub turn : n ≡ sampleCount (partsOf area)
+  pub sample : s ≡ sampleOf r
+  pub range : inRange s ≡ true
+
+-- what taking the sample of record r, second n, promises of the answer a: the sample is taken with the tally that the area holds, and the answer is the
+-- moves; or a refusal, only of an area that stands for no trip, which changes nothing
+pub record Accepts (r : List ℕ) (n : ℕ) (s : List ℕ) (a : Answer) (s′ : List ℕ) : Type 0 where
+  pub taken :
+      (z : ℤ) → a ≡ number z
+      → Taken (windowCount (partsOf s)) n r (sampleOf r .speed) (added (tallyFrom (tallyIn (partsOf s))) (sampleOf r)) (partsOf s) (partsOf s′) × CountedMoves (partsOf s′) z
+  pub damaged : (k : ℕ) → a ≡ refused k → (s′ ≡ s) × ((0 < k) × ((t : Trip) → Stands s t → ⊥))
+  pub unjudged : (v : Verdict) → a ≡ judged v → ⊥
+
+-- a number is no refusal
+pub number-fine : (z : ℤ) (k : ℕ) → number z ≡ refused k → ⊥
+number-fine z k e = let w : _≡_ {A = ℕ} 0 1 = cc in omega arith

@@ -1,0 +1,45 @@
+// A sample whose turn it is goes into every part of the state area; an area that is found to be one that no list of calls leaves is refused.
+// specs/Effects.antt says what is promised, specs/Damaged.antt has the laws of the areas that stand for no trip.
+use model::Answer;
+use model::MAX_WINDOWS;
+use model::Sample;
+use model::Speed;
+use model::Tally;
+ghost use Rattle.model.specs.Answers.{answerOf};
+ghost use Rattle.area_windows.specs.Effects.{Stepping};
+ghost use Rattle.area.specs.Layout.{partsOf};
+ghost use Rattle.taking.specs.Effects.{Taken, Taking, Accepts};
+
+// The refusal of an area that is found to be one that no list of calls leaves; document 01 leaves the number free.
+pub const DAMAGED: u32 = 255;
+
+// The sample of second n, of this record and speed, goes into every part of the area; t is the tally with it.
+fn store(area: &mut [u8], record: &[u8], v: Speed, n: u32, k: u32, t: Tally)
+    requires { ⌜ Stepping (now area) k n (now «record») ⌝ }
+    ensures { λ _. ⌜ Taken k n (now («record» .entry)) v t (partsOf (now (area .entry))) (partsOf (now (area .exit))) ⌝ }
+{
+    area::write_tally(area, t);
+    area_windows::step_windows(area, k as usize, n as u16, record);
+    area::append_speed(area, n as usize, v);
+    area::set_samples(area, n + 1);
+}
+
+// Takes a sample whose turn it is and answers the moves made so far.
+pub fn take(area: &mut [u8], record: &[u8], s: Sample, n: u32) -> Answer
+    requires { ⌜ Taking (now area) (now «record») s n ⌝ }
+    ensures { λ r. ⌜ Accepts (now («record» .entry)) n (now (area .entry)) (answerOf r) (now (area .exit)) ⌝ }
+{
+    let k = area::windows(area);
+    if MAX_WINDOWS < k {
+        return Answer::Refused(DAMAGED);
+    }
+    if !area_windows::sound_windows(area, k as usize, n as u16) {
+        return Answer::Refused(DAMAGED);
+    }
+    let t = area::read_tally(area);
+    if !tally::is_sound(t) {
+        return Answer::Refused(DAMAGED);
+    }
+    store(area, record, s.speed, n, k, tally::add(t, s));
+    Answer::Number(area_windows::moves(area))
+}

@@ -1,0 +1,3 @@
+mod Output
+mod Block
+mod Join

@@ -1,5 +1,6 @@
 /* The six calls and the tally of a block in plain C, by hand: what the core is measured against, and a second reckoning for long runs. The calls and
- * their answers are those of rde.h, the data structures those of the core; the bytes of the area are its own. */
+ * their answers are those of rde.h on any list of calls from a clear, the data structures those of the core; the bytes of the area are its own, without a
+ * format mark. */
 #ifndef PLAIN_H
 #define PLAIN_H
 

@@ -6,7 +6,9 @@
  *
  * A trip: rde_clear, then rde_declare for each window, then rde_sample once a second, rde_read and rde_verdict at any time, and
  * rde_close at the end. The whole state is the area: between calls nobody else may write it, and records lie outside it. It may be
- * copied, moved or saved between calls. Calls on different areas may run at the same time; on one area only rde_read and rde_verdict.
+ * copied, moved or saved between calls. rde_clear puts a mark of the area's format into it; every other call refuses an area without
+ * this mark, which was never cleared or was saved by a version with another format, with RDE_DAMAGED. Calls on different areas may run
+ * at the same time; on one area only rde_read and rde_verdict.
  *
  * After a refused sample the trip is as it was: the next record has the same second, and no second can be left out. What stands for a
  * sensor that fails is the caller's choice.
@@ -20,6 +22,11 @@
 #ifdef __cplusplus
 extern "C" {
 #endif
+
+/* The version of this interface. It becomes one more when a function, an answer, a record, a tally or the area's format changes: then
+ * programs are compiled again, and areas and tallies that were saved before are used no more. An area whose format has changed has
+ * another mark, and is refused with RDE_DAMAGED. */
+#define RDE_VERSION 1
 
 /* What a call answers: refusal 0 means accepted, with the value; any other refusal has value 0 and has changed no byte. */
 typedef struct {
@@ -51,7 +58,7 @@ enum {
     RDE_LENGTH = 11,        /* area or output of the wrong length */
     RDE_TALLY = 12,         /* an ill-formed tally */
     RDE_JOINED = 13,        /* joined tallies over 7201 samples */
-    RDE_DAMAGED = 255       /* the area holds what no list of calls leaves; only rde_clear helps */
+    RDE_DAMAGED = 255       /* the area was never cleared, or holds what no list of calls leaves; only rde_clear helps */
 };
 
 /* The findings of a verdict beside the rules' numbers. */
@@ -151,9 +158,10 @@ rde_answer rde_read(const uint8_t *area, size_t area_len, uint32_t window);
 /* The verdict on the samples taken so far, the trip closed or not. Refusal: RDE_LENGTH. Changes nothing. */
 rde_verdict_answer rde_verdict(const uint8_t *area, size_t area_len);
 
-/* RDE_DAMAGED is given last by rde_sample, after RDE_LENGTH by rde_verdict, and by rde_read for a number of 16 or more that the area
- * claims to have. An area that the six calls alone have written since an accepted rde_clear never gives it. Not all damage is found: a
- * damaged area, or one that was never cleared, may as well give other refusals or wrong values. */
+/* RDE_DAMAGED is given right after RDE_LENGTH and RDE_RECORD_LENGTH, by every call but rde_clear, for an area without the mark that
+ * rde_clear writes; besides, last by rde_sample, by rde_verdict, and by rde_read for a number of 16 or more that the area claims to
+ * have. An area that the six calls alone have written since an accepted rde_clear never gives it. RDE_LENGTH and RDE_RECORD_LENGTH are
+ * given exactly when due on any area. Not all damage is found: a damaged area may as well give other refusals or wrong values. */
 
 /* The tally of a block of sample records (their seconds are not looked at) into out, which has exactly RDE_TALLY_LEN bytes and
  * shares no byte with block. Value 0.

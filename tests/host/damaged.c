@@ -1,7 +1,7 @@
-/* Areas that no list of calls leaves: all random bytes; what a list of calls left with 1 to 40 bytes changed, with a stretch of
- * random bytes, or joined from two such areas. On each, every call is made with good and bad records: each ends without a
- * fault, a refusal changes no byte, 11 and 1 are given as ever (lent.h). Then clear makes the area fresh: a short list answers as
- * document 01 says.
+/* Areas that no list of calls leaves: never cleared (random bytes, all 0, all 255); what a list of calls left with 1 to 40 bytes
+ * changed, with a stretch of random bytes, or joined from two such areas. On each, every call is made with good and bad records:
+ * each ends without a fault, a refusal changes no byte, 11 and 1 are given exactly when due (lent.h); one that was never cleared is
+ * refused with 255. Then clear makes the area fresh: a short list answers as document 01 says.
  *     damaged COUNT [SEED]
  * An area passes or fails as a whole. Prints the refusals by number; the last line is 'N passed, M failed'. */
 #include "chance.h"
@@ -85,6 +85,19 @@ static void change_joined(lent *l, trip *t)
     memcpy(l->area, first, from);
 }
 
+/* What clear writes that is not 0, the mark of the area's format: found by clearing an area of zeros and one of ones. */
+static void put_mark(uint8_t *area)
+{
+    static uint8_t zeros[RDE_AREA_LEN], ones[RDE_AREA_LEN];
+    memset(zeros, 0, sizeof zeros);
+    memset(ones, 255, sizeof ones);
+    rde_clear(zeros, sizeof zeros);
+    rde_clear(ones, sizeof ones);
+    for (uint32_t i = 0; i < RDE_AREA_LEN; i++)
+        if (zeros[i] == ones[i] && zeros[i] != 0)
+            area[i] = zeros[i];
+}
+
 /* Puts damage into the area; gives where a list would go on. */
 static trip damage(lent *l)
 {
@@ -93,6 +106,8 @@ static trip damage(lent *l)
     if (kind == 0) {
         t = trip_start(40, 4);
         random_bytes(l->area, RDE_AREA_LEN);
+        if (once_in(2))
+            put_mark(l->area);
     } else {
         t = make_real(l);
         if (kind == 1)
@@ -130,14 +145,28 @@ static void make_calls(lent *l, trip t)
     }
 }
 
-/* --- A short list --- */
+/* --- Stated answers --- */
 
 static void expect(lent *l, const call *c, answer stated)
 {
     answer given = lent_call(l, c);
     if (!same_answer(&given, &stated))
-        lent_wrong(l, "after clear, a call does not answer as stated");
+        lent_wrong(l, "a call does not answer as stated");
 }
+
+/* Every call but clear on an area that was never cleared: 255 alone, or 1 for a record of another length. */
+static void never_cleared(lent *l)
+{
+    for (int kind = CLEAR + 1; kind < KINDS; kind++) {
+        call c = {.kind = kind, .record_len = RDE_RECORD_LEN};
+        expect(l, &c, refusal_alone(RDE_DAMAGED));
+        c.record_len = below(RDE_RECORD_LEN);
+        expect(l, &c, refusal_alone(takes_record(&c) ? RDE_RECORD_LENGTH : RDE_DAMAGED));
+        lent_other_length(l, &c, RDE_AREA_LEN - 1);
+    }
+}
+
+/* --- A short list --- */
 
 static void expect_plain(lent *l, int kind, answer stated)
 {
@@ -194,6 +223,11 @@ static void run_area(lent *l, long k)
     alarm(MOST_SECONDS);
     random_bytes(bytes, l->memory.room);
     lent_start(l, k % 2, bytes);
+    if (k % 4 > 1) {
+        memset(l->area, k % 4 == 2 ? 0 : 255, RDE_AREA_LEN);
+        lent_settle(l);
+    }
+    never_cleared(l);
     t = damage(l);
     make_calls(l, t);
     short_list(l);

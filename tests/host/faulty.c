@@ -35,6 +35,9 @@ enum {
     READ_NONE_EARLY,       /* a reading of 0 is refused with 10 */
     READ_WINDOW,           /* the window after the one asked for is read */
     ENDLESS,               /* a reading of a closed trip does not end */
+    DAMAGED_LENGTH,        /* a sample to a damaged area is refused with 11 */
+    DAMAGED_RECORD,        /* a declare, close or read on a damaged area is refused with 1 */
+    UNCLEARED_CLEAN,       /* the verdict on a damaged area is clean */
     VERDICT_EXCEEDED,      /* the exceeded mark is never set */
     VERDICT_RULE,          /* rule 20's bit is never set */
     VERDICT_OTHER_BITS,    /* a bit of no rule is set */
@@ -113,6 +116,8 @@ static size_t length_of(uint8_t *area, size_t area_len)
 
 static rde_answer told(rde_answer a)
 {
+    if (on(DAMAGED_RECORD) && a.refusal == RDE_DAMAGED)
+        a.refusal = RDE_RECORD_LENGTH;
     if (on(REFUSAL_VALUE) && a.refusal == RDE_NO_WINDOW)
         a.value = 1;
     return a;
@@ -157,6 +162,8 @@ rde_answer __wrap_rde_declare(uint8_t *area, size_t area_len, const uint8_t *rec
 /* A sample's answer as one of these faults tells it. */
 static rde_answer sample_told(rde_answer a, const uint8_t *record)
 {
+    if (on(DAMAGED_LENGTH) && a.refusal == RDE_DAMAGED)
+        a.refusal = RDE_LENGTH;
     if (on(SECOND_FULL) && (a.refusal == RDE_SECOND || a.refusal == RDE_FULL))
         a.refusal = RDE_SECOND + RDE_FULL - a.refusal;
     if (on(FULL_LATE) && a.refusal == RDE_FULL && second_of(record) != RDE_MAX_SAMPLES)
@@ -219,6 +226,8 @@ rde_answer __wrap_rde_read(const uint8_t *area, size_t area_len, uint32_t window
 rde_verdict_answer __wrap_rde_verdict(const uint8_t *area, size_t area_len)
 {
     rde_verdict_answer v = __real_rde_verdict(area, area_len);
+    if (on(UNCLEARED_CLEAN) && v.refusal == RDE_DAMAGED)
+        return (rde_verdict_answer){0, 0, 0, RDE_CLEAN};
     if (on(VERDICT_EXCEEDED))
         v.exceeded = 0;
     if (on(VERDICT_RULE))

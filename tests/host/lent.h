@@ -1,6 +1,6 @@
 /* A lent area between unreadable pages, and calls on it that check what each call must keep, whatever the area holds:
  * at a refusal every other field is 0; a refusal, a reading and a verdict change no byte; no call changes a byte beside the area
- * or in its record; a record of another length gives 1, an area of another length 11. */
+ * or in its record; 11 is given exactly where the area has another length, 1 exactly where it has not and the record has. */
 #ifndef LENT_H
 #define LENT_H
 
@@ -186,6 +186,10 @@ static inline answer lent_call(lent *l, const call *c)
         lent_wrong(l, "a refusal with another field");
     if (takes_record(c) && c->record_len != RDE_RECORD_LEN && a.refusal != RDE_RECORD_LENGTH)
         lent_wrong(l, "a record of another length is not refused with 1");
+    if (a.refusal == RDE_LENGTH)
+        lent_wrong(l, "an area of the right length is refused with 11");
+    if (a.refusal == RDE_RECORD_LENGTH && (!takes_record(c) || c->record_len == RDE_RECORD_LEN))
+        lent_wrong(l, "1 is given without a record of another length");
     if (c->kind == CLEAR && a.refusal != 0)
         lent_wrong(l, "clear is refused");
     if (a.refusal == 0 && writes(c))

@@ -6,7 +6,7 @@ failed'.
 compare.py --files FOLDER: writes the list that `rt check` runs the program on,
 and what it must write, as the files stdin and stdout of the folder.
 
-A call is a kind, a length and as many bytes; an answer is nine bytes: what it
+A call is a kind, a length of eight bytes and as many bytes; an answer is nine bytes: what it
 is, then its numbers, little-endian (crates/replay/specs, crates/answers/specs).
 """
 
@@ -27,13 +27,17 @@ CLEAR = (('clear',), ('number', 0))
 ROOM = 131072 // 9    # answers that the program has room for
 
 
+def entry(kind, record):
+    return bytes([kind]) + struct.pack('<Q', len(record)) + record
+
+
 def call_bytes(call):
     record = b''
     if call[0] in ('declare', 'sample'):
         record = call[1]
     if call[0] == 'read':
         record = struct.pack('<I', call[1])
-    return bytes([reference.KINDS.index(call[0]), len(record)]) + record
+    return entry(reference.KINDS.index(call[0]), record)
 
 
 def answer_bytes(answer):
@@ -96,11 +100,14 @@ def main():
         compared(name, script, expected)
     # what is left of a call at the end is no call; at an unknown kind the script ends; past the room no call is made
     script, expected = script_of(calls), answers_of(answers)
-    for extra in (b'\x00', b'\x02\x10' + bytes(15), b'\x05\x01'):
+    for extra in (entry(0, b'')[:1], entry(0, b'')[:8], entry(2, bytes(16))[:-1], b'\x02' + b'\xff' * 8 + bytes(16)):
         compared('%d bytes of a call' % len(extra), script + extra, expected)
     unknown = b'vectors: the script ends at a call of an unknown kind\n'
     for kind in (len(reference.KINDS), 200, 255):
-        compared('kind %d' % kind, script + bytes([kind, 4, 0, 0, 0, 0]) + script_of([('verdict',), CLEAR[0]]), expected, unknown)
+        compared('kind %d' % kind, script + entry(kind, bytes(4)) + script_of([('verdict',), CLEAR[0]]), expected, unknown)
+    long = [('sample', bytes(255)), ('sample', bytes(256)), ('declare', bytes(70000))]
+    compared('long records', script_of([CLEAR[0]] + long), answers_of([CLEAR[1]] + [('refused', 1)] * 3))
+    compared('never cleared', script_of([('verdict',), ('close',), ('read', 0)]), answers_of([('refused', 255)] * 3))
     compared('nothing', b'', b'')
     compared('more calls than room', script_of([CLEAR[0]] * (ROOM + 9)), answers_of([CLEAR[1]] * ROOM))
     print('%d passed, %d failed' % (passed, failed))

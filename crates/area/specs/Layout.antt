@@ -35,8 +35,10 @@ lengths =
     ∷ numberLen
     -- number of windows
     ∷ numberLen
+    -- format mark
+    ∷ numberLen
     -- reserved
-    ∷ 52
+    ∷ 48
     -- tally
     ∷ tallyLength
     -- reserved: one more number of a tally, two altitudes
@@ -49,7 +51,7 @@ lengths =
 
 -- the first of them are the numbers of the head
 abbrev pub headNumbers : ℕ
-headNumbers = 3
+headNumbers = 4
 
 abbrev pub samplesPart : ℕ
 samplesPart = 0
@@ -60,14 +62,17 @@ markPart = 1
 abbrev pub windowsPart : ℕ
 windowsPart = 2
 
+abbrev pub formatPart : ℕ
+formatPart = 3
+
 abbrev pub tallyPart : ℕ
-tallyPart = 4
+tallyPart = 5
 
 abbrev pub speedsPart : ℕ
-speedsPart = 6
+speedsPart = 7
 
 abbrev pub slotsPart : ℕ
-slotsPart = 7
+slotsPart = 8
 
 -- what stands before the k-th of a list of lengths, and all of them together
 unfoldable pub before : List ℕ → ℕ → ℕ
@@ -85,6 +90,10 @@ place k = before lengths k
 
 unfoldable pub size : ℕ → ℕ
 size k = getD lengths k 0
+
+-- the mark of an area of this format: the bytes "RDE1"; it changes with the layout and with what the bytes mean
+abbrev pub formatNumber : ℕ
+formatNumber = 826623058
 
 -- the length of the area
 abbrev pub areaLen : ℕ
@@ -114,6 +123,9 @@ closedMark p = leVal (p markPart)
 
 abbrev pub windowCount : Parts → ℕ
 windowCount p = leVal (p windowsPart)
+
+abbrev pub formatMark : Parts → ℕ
+formatMark p = leVal (p formatPart)
 
 abbrev pub tallyIn : Parts → List ℕ
 tallyIn p = p tallyPart

@@ -12,13 +12,14 @@ use Rattle.model.specs.Tallies.{tallyOf, tallyBytes}
 use Rattle.model.specs.Trip.{Trip}
 use Rattle.model.specs.Verdicts.{verdictOf}
 use Rattle.window.specs.Stand as window
-use Rattle.area.specs.Layout.{areaLen, Parts, partsOf, sampleCount, closedMark, windowCount, tallyIn, speedsIn, slotsIn}
+use Rattle.area.specs.Layout.{areaLen, Parts, partsOf, sampleCount, closedMark, windowCount, formatMark, formatNumber, tallyIn, speedsIn, slotsIn}
 
 -- the parts hold what the trip's lists and mark say
 pub record Holds (p : Parts) (t : Trip) : Type 0 where
   pub samples : sampleCount p ≡ length (t .samples)
   pub mark : closedMark p ≡ bit (t .closed)
   pub windows : windowCount p ≡ length (t .windows)
+  pub format : formatMark p ≡ formatNumber
   pub tally : tallyIn p ≡ tallyBytes (tallyOf (t .samples))
   pub speeds : cells 2 leVal (speedsIn p) (length (t .samples)) ≡ map speed (t .samples)
   pub slots : window.Stands (t .windows) (t .samples) (slotsIn p)
@@ -26,6 +27,10 @@ pub record Holds (p : Parts) (t : Trip) : Type 0 where
 -- what the verdict v on the parts promises, where the tally u and the number of samples n were read from them
 abbrev pub Judges : Parts → Tally → ℕ → Verdict → Type 0
 Judges p u n v = (t : Trip) → Holds p t → u ≡ tallyOf (t .samples) → n ≡ length (t .samples) → v ≡ verdictOf (t .samples)
+
+-- the refusal of an area that is found to stand for no trip; document 01 leaves the number free
+abbrev pub damaged : ℕ
+damaged = 255
 
 -- the area stands for the trip
 pub record Stands (area : List ℕ) (t : Trip) : Type 0 where

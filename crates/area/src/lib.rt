@@ -13,7 +13,7 @@ ghost use Rattle.model.specs.Records.{maxSamples};
 ghost use Rattle.model.specs.Tallies.{tallyBytes, tallyFrom};
 ghost use Rattle.power.specs.Speeds.{Appended};
 ghost use Rattle.tally.specs.Sound.{Sound as SoundTally};
-ghost use Rattle.area.specs.Layout.{areaLen, headNumbers, samplesPart, markPart, windowsPart, tallyPart, speedsPart, partsOf, with, sampleCount, closedMark, windowCount, tallyIn};
+ghost use Rattle.area.specs.Layout.{areaLen, headNumbers, samplesPart, markPart, windowsPart, formatPart, tallyPart, speedsPart, partsOf, with, formatNumber, sampleCount, closedMark, windowCount, formatMark, tallyIn};
 ghost use Rattle.area.specs.Stands.{Judges};
 ghost use Rattle.area.specs.Effects.{Changed, Numbered};
 
@@ -25,6 +25,14 @@ const SAMPLES: usize = 0;
 const MARK: usize = 1;
 
 const WINDOWS: usize = 2;
+
+const FORMAT_MARK: usize = 3;
+
+// The mark of an area of this format: the bytes "RDE1". It changes with the layout and with what the bytes mean.
+pub const FORMAT: u32 = 0x3145_4452;
+
+// The refusal of an area that is found to stand for no trip; document 01 leaves the number free.
+pub const DAMAGED: u32 = 255;
 
 // The parts behind the head, each behind the one before it and the bytes that are reserved.
 const HEAD_LEN: usize = 64;
@@ -79,6 +87,14 @@ pub fn windows(area: &[u8]) -> u32
     number(area, WINDOWS)
 }
 
+// The format mark.
+pub fn format(area: &[u8]) -> u32
+    requires { ⌜ length (now area) ≡ areaLen ⌝ }
+    ensures { λ r. ⌜ r ≡ formatMark (partsOf (now (area .entry))) ⌝ }
+{
+    number(area, FORMAT_MARK)
+}
+
 pub fn set_samples(area: &mut [u8], n: u32)
     requires { ⌜ length (now area) ≡ areaLen ⌝ }
     ensures { λ _. ⌜ Numbered samplesPart n (partsOf (now (area .entry))) (partsOf (now (area .exit))) ⌝ }
@@ -98,6 +114,13 @@ pub fn set_windows(area: &mut [u8], k: u32)
     ensures { λ _. ⌜ Numbered windowsPart k (partsOf (now (area .entry))) (partsOf (now (area .exit))) ⌝ }
 {
     set_number(area, WINDOWS, k);
+}
+
+pub fn set_format(area: &mut [u8])
+    requires { ⌜ length (now area) ≡ areaLen ⌝ }
+    ensures { λ _. ⌜ Numbered formatPart formatNumber (partsOf (now (area .entry))) (partsOf (now (area .exit))) ⌝ }
+{
+    set_number(area, FORMAT_MARK, FORMAT);
 }
 
 pub fn read_tally(area: &[u8]) -> Tally

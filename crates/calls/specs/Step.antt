@@ -7,25 +7,32 @@ use lib.IntN.{pos}
 use lib.ListN.{length}
 use Rattle.model.specs.Records.{recordLength}
 use Rattle.model.specs.Trip.{Trip, empty, Call, clear, recordOf, Answer, number, refused, answer, next}
-use Rattle.area.specs.Layout.{areaLen}
-use Rattle.area.specs.Stands.{Stands}
+use Rattle.area.specs.Layout.{areaLen, partsOf, formatMark, formatNumber}
+use Rattle.area.specs.Stands.{damaged, Stands}
 
--- the call's record, if it has one: of another length it is refused with 1, whatever the area holds
-abbrev pub Sized : Call → List ℕ → Answer → Type 0
-Sized c s a = (r : List ℕ) → recordOf c ≡ some r → length s ≡ areaLen → (length r ≡ recordLength → ⊥) → a ≡ refused 1
+-- P exactly when Q
+pub record Exactly (P Q : Type 0) : Type 0 where
+  pub when : Q → P
+  pub only : P → Q
 
--- if the call is clear: it makes an area of any bytes fresh
-abbrev pub Fresh : Call → List ℕ → Answer → List ℕ → Type 0
-Fresh c s a s′ = c ≡ clear → length s ≡ areaLen → (a ≡ number (pos 0)) × Stands s′ empty
+-- the call lends a record, of another length than a record's
+pub record WrongRecord (c : Call) : Type 0 where
+  pub bytes : List ℕ
+  pub lent : recordOf c ≡ some bytes
+  pub other : length bytes ≡ recordLength → ⊥
 
 -- what one call promises: area s before, answer a, area s′ after
 pub record Step (c : Call) (s : List ℕ) (a : Answer) (s′ : List ℕ) : Type 0 where
-  -- an area of another length is refused with 11
-  pub wrong : (length s ≡ areaLen → ⊥) → a ≡ refused 11
+  -- 11 exactly when the area has another length
+  pub wrong : Exactly (a ≡ refused 11) (length s ≡ areaLen → ⊥)
+  -- 1 exactly when the area has its length and the call's record another, whatever the area holds
+  pub sized : Exactly (a ≡ refused 1) ((length s ≡ areaLen) × WrongRecord c)
   -- no refusal changes a byte, whatever the area holds; a refusal's number is not 0
   pub kept : (k : ℕ) → a ≡ refused k → (s′ ≡ s) × (0 < k)
-  pub sized : Sized c s a
-  pub fresh : Fresh c s a s′
+  -- clear makes an area of any bytes fresh
+  pub fresh : c ≡ clear → length s ≡ areaLen → (a ≡ number (pos 0)) × Stands s′ empty
+  -- any other call refuses an area without the format mark, where neither 11 nor 1 is due
+  pub unmarked : (c ≡ clear → ⊥) → length s ≡ areaLen → (WrongRecord c → ⊥) → (formatMark (partsOf s) ≡ formatNumber → ⊥) → a ≡ refused damaged
   -- the answer is the reference model's, and the area stands for its next trip
   pub model : (t : Trip) → Stands s t → (a ≡ answer t c) × Stands s′ (next t c)
 

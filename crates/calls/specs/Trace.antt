@@ -1,4 +1,5 @@
--- THE THEOREM about every list of calls (document 01, "The trip book"; demand 3).
+-- Every list of calls (document 01, "The trip book"; demand 3): what the promises of its calls come to. crates/monitor/specs/Exported.antt has THE THEOREM about the
+-- exported functions, which rests on this.
 use mathlib.Core.Bool.{true}
 use mathlib.Core.List.{List, _∷_}
 use mathlib.Core.Path.{_≡_, refl, ap, _∙_}
@@ -37,7 +38,7 @@ runs (call {c = c} step run) t st =
     let one = step .model t st in
     let rest = runs run (next t c) (one .1) in
     (cc, rest .1)
-runs (aside view lent lent′ wrong step run) t st = runs run t (rw (step .kept 11 (step .wrong wrong) .0) st)
+runs (aside view lent lent′ wrong step run) t st = runs run t (rw (step .kept 11 (step .wrong .when wrong) .0) st)
 
 -- what an area that stands for a trip says of the moves and the lists
 pub kept : (s : List ℕ) (t : Trip) → Stands s t
@@ -55,7 +56,7 @@ fresh-runs size (call step run) =
     let rest = runs run empty (one .1) in
     (cc, rest .1)
 fresh-runs size (aside view lent lent′ wrong step run) =
-    fresh-runs (ap (λ (l : List ℕ). length (view l)) (step .kept 11 (step .wrong wrong) .0) ∙ size) run
+    fresh-runs (ap (λ (l : List ℕ). length (view l)) (step .kept 11 (step .wrong .when wrong) .0) ∙ size) run
 
 -- Every list of calls from a fresh area: a clear on an area of the right length, with any bytes in it, then any calls.
 pub every-list : {s s′ : List ℕ} {cs : List Call} {given : List Answer} → length s ≡ areaLen → Run s (clear ∷ cs) given s′ → Claim (clear ∷ cs) given s′

@@ -17,19 +17,22 @@ use Rattle.calls.specs.Step.{Step}
 use Rattle.tally_calls.specs.Calls.{Wrote}
 use Rattle.monitor.specs.declared.RdeAnswer.{RdeAnswer}
 use Rattle.monitor.specs.declared.RdeVerdictAnswer.{RdeVerdictAnswer}
-use Rattle.monitor.specs.Reply.{replyOf, verdictReplyOf, Numbered, NumberedVerdict, Told, Judged, Steps, Writes}
+use Rattle.monitor.specs.Reply.{replyOf, verdictReplyOf, Numbered, NumberedVerdict, Told, Writes}
+use Rattle.monitor.specs.Exported.{plain, judgement, judges, Exported, tells, gives}
 
 -- a call on the area
-pub stepped : {c : model.Call} {before after : List ℕ} {r : RdeAnswer} (a : Answer) → r ≡ replyOf a → Step c before (answerOf a) after → Told (Steps c before after) r
-stepped a e st = record { told = a; is = e; numbered = numbered a st; promise = st }
+pub stepped : {c : model.Call} {before after : List ℕ} {r : RdeAnswer} (a : Answer) → judges c ≡ false → r ≡ replyOf a → Step c before (answerOf a) after
+    → Exported c before (plain r) after
+stepped a j e st = tells j (record { told = a; is = e; numbered = numbered a st; promise = st })
   where
     numbered : {c : model.Call} {before after : List ℕ} (a : Answer) → Step c before (answerOf a) after → Numbered a
     numbered (answer.Number z) st = tt
     numbered (answer.Refused k) st = st .kept k refl .1
 
 -- the verdict
-pub judged : {area : List ℕ} {r : RdeVerdictAnswer} (a : VerdictAnswer) → r ≡ verdictReplyOf a → Step model.verdict area (verdictAnswerOf a) area → Judged area r
-judged a e st = record { told = a; is = e; numbered = numbered a st; promise = st }
+pub judged : {area : List ℕ} {r : RdeVerdictAnswer} (a : VerdictAnswer) → r ≡ verdictReplyOf a → Step model.verdict area (verdictAnswerOf a) area
+    → Exported model.verdict area (judgement r) area
+judged a e st = gives (record { told = a; is = e; numbered = numbered a st; promise = st })
   where
     numbered : {area : List ℕ} (a : VerdictAnswer) → Step model.verdict area (verdictAnswerOf a) area → NumberedVerdict a
     numbered (verdict.Judged v) st = tt

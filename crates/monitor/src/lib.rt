@@ -1,4 +1,4 @@
-// The product for C: every exported function. include/rde.h declares them.
+// The product for C: every exported function. include/rde.h declares them; specs/Exported.antt has the theorem about every list of the six calls.
 use model::Answer;
 use model::Verdict;
 use model::VerdictAnswer;
@@ -7,7 +7,8 @@ ghost use lib.ListN.{length};
 ghost use Rattle.model.specs.Blocks.{tallied, joined};
 ghost use Rattle.model.specs.Trip as model;
 ghost use Rattle.area.specs.Layout.{areaLen};
-ghost use Rattle.monitor.specs.Reply.{replyOf, judgedReplyOf, verdictReplyOf, Told, Judged, Writes, Steps};
+ghost use Rattle.monitor.specs.Reply.{replyOf, judgedReplyOf, verdictReplyOf, Told, Writes};
+ghost use Rattle.monitor.specs.Exported.{plain, judgement, Exported};
 
 // An answer: refusal 0 is accepted, with the value; any other refusal has value 0.
 #[repr(C)]
@@ -77,7 +78,7 @@ pub extern "C" fn rde_area_len() -> usize
 // Makes the area fresh.
 #[no_mangle]
 pub extern "C" fn rde_clear(area: &mut [u8]) -> RdeAnswer
-    ensures { λ r. ⌜ Told (Steps model.clear (now (area .entry)) (now (area .exit))) r ⌝ }
+    ensures { λ r. ⌜ Exported model.clear (now (area .entry)) (plain r) (now (area .exit)) ⌝ }
 {
     reply(calls::clear(area))
 }
@@ -85,7 +86,7 @@ pub extern "C" fn rde_clear(area: &mut [u8]) -> RdeAnswer
 // Declares a window.
 #[no_mangle]
 pub extern "C" fn rde_declare(area: &mut [u8], record: &[u8]) -> RdeAnswer
-    ensures { λ r. ⌜ Told (Steps (model.declare (now («record» .entry))) (now (area .entry)) (now (area .exit))) r ⌝ }
+    ensures { λ r. ⌜ Exported (model.declare (now («record» .entry))) (now (area .entry)) (plain r) (now (area .exit)) ⌝ }
 {
     reply(calls::declare(area, record))
 }
@@ -93,7 +94,7 @@ pub extern "C" fn rde_declare(area: &mut [u8], record: &[u8]) -> RdeAnswer
 // Takes a sample.
 #[no_mangle]
 pub extern "C" fn rde_sample(area: &mut [u8], record: &[u8]) -> RdeAnswer
-    ensures { λ r. ⌜ Told (Steps (model.sample (now («record» .entry))) (now (area .entry)) (now (area .exit))) r ⌝ }
+    ensures { λ r. ⌜ Exported (model.sample (now («record» .entry))) (now (area .entry)) (plain r) (now (area .exit)) ⌝ }
 {
     reply(calls::sample(area, record))
 }
@@ -101,7 +102,7 @@ pub extern "C" fn rde_sample(area: &mut [u8], record: &[u8]) -> RdeAnswer
 // Closes the trip.
 #[no_mangle]
 pub extern "C" fn rde_close(area: &mut [u8]) -> RdeAnswer
-    ensures { λ r. ⌜ Told (Steps model.close (now (area .entry)) (now (area .exit))) r ⌝ }
+    ensures { λ r. ⌜ Exported model.close (now (area .entry)) (plain r) (now (area .exit)) ⌝ }
 {
     reply(calls::close(area))
 }
@@ -109,7 +110,7 @@ pub extern "C" fn rde_close(area: &mut [u8]) -> RdeAnswer
 // Reads a window.
 #[no_mangle]
 pub extern "C" fn rde_read(area: &[u8], window: u32) -> RdeAnswer
-    ensures { λ r. ⌜ Told (Steps (model.read window) (now (area .entry)) (now (area .entry))) r ⌝ }
+    ensures { λ r. ⌜ Exported (model.read window) (now (area .entry)) (plain r) (now (area .entry)) ⌝ }
 {
     reply(calls::read(area, window))
 }
@@ -117,7 +118,7 @@ pub extern "C" fn rde_read(area: &[u8], window: u32) -> RdeAnswer
 // The verdict on the samples so far.
 #[no_mangle]
 pub extern "C" fn rde_verdict(area: &[u8]) -> RdeVerdictAnswer
-    ensures { λ r. ⌜ Judged (now (area .entry)) r ⌝ }
+    ensures { λ r. ⌜ Exported model.verdict (now (area .entry)) (judgement r) (now (area .entry)) ⌝ }
 {
     verdict_reply(calls::verdict(area))
 }

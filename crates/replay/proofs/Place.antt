@@ -7,16 +7,26 @@ use native.Mathlib.Omega.{arith}
 use lib.Dec.{leb}
 use lib.ListN.{length, getD, take, drop, length-drop}
 use lib.Seq.{getD-drop, drop-drop}
-use borrow.Author.Tests.{leb-true, lt-leb}
+use borrow.Author.Tests.{leb-true, leb-false, le-leb, lt-leb}
+use Rattle.model.specs.Numbers.{leAt}
 use Rattle.laws.specs.Tests.{both}
-use Rattle.replay.specs.Script.{lastKind, callOf, callLength, whole, known, ready, first}
+use Rattle.replay.specs.Script.{lastKind, callOf, headLength, bytesLength, callLength, whole, known, ready, first}
 
 module _ (script : List ℕ) (from : ℕ) where
-  pub whole-at : leb (2 + getD script (from + 1) 0) (length script - from) ≡ whole (drop from script)
-  whole-at = rw (length-drop, getD-drop)
+  -- the length of the call's bytes
+  size-at : bytesLength (drop from script) ≡ leAt 8 script (from + 1)
+  unfolding leAt
+  size-at = rw (drop-drop 1 from script) refl
+
+  pub whole-at : headLength ≤ length script - from → leb (leAt 8 script (from + 1)) (length script - from - headLength) ≡ whole (drop from script)
+  whole-at h = rw (length-drop, size-at) (by (leb (leAt 8 script (from + 1)) (length script - from - headLength)) refl)
+    where
+      by : (b : Bool) → leb (leAt 8 script (from + 1)) (length script - from - headLength) ≡ b → b ≡ leb (headLength + leAt 8 script (from + 1)) (length script - from)
+      by true e = rw (le-leb (headLength + leAt 8 script (from + 1)) (length script - from) (omega (arith, leb-true (leAt 8 script (from + 1)) (length script - from - headLength) e)))
+      by false e = rw (lt-leb (headLength + leAt 8 script (from + 1)) (length script - from) (omega (arith, leb-false (leAt 8 script (from + 1)) (length script - from - headLength) e)))
 
   -- fewer bytes than a kind and a length
-  pub none-at : length script - from < 2 → false ≡ whole (drop from script)
+  pub none-at : length script - from < headLength → false ≡ whole (drop from script)
   none-at h = rw (lt-leb (callLength (drop from script)) (length (drop from script)) (rw length-drop (omega arith)))
 
   -- a call to make: it is whole, and its kind is known
@@ -43,12 +53,14 @@ module _ (script : List ℕ) (from : ℕ) where
   pub inside : whole (drop from script) ≡ true → from ≤ length script → from + callLength (drop from script) ≤ length script
   inside w h = omega (arith, leb-true (callLength (drop from script)) (length (drop from script)) w, length-drop from script)
 
-  pub length-at : from + callLength (drop from script) ≡ from + 2 + getD script (from + 1) 0
-  length-at = rw getD-drop (omega arith)
+  pub length-at : from + callLength (drop from script) ≡ from + headLength + leAt 8 script (from + 1)
+  length-at = rw size-at (omega arith)
 
-  pub first-at : first (drop from script) ≡ callOf (getD script from 0) (take (from + 2 + getD script (from + 1) 0 - (from + 2)) (drop (from + 2) script))
+  -- the call between its bytes' start and end
+  pub first-at : (n : ℕ) → n ≡ leAt 8 script (from + 1)
+      → first (drop from script) ≡ callOf (getD script from 0) (take (from + headLength + n - (from + headLength)) (drop (from + headLength) script))
   unfolding first
-  first-at =
-      let n : from + 2 + getD script (from + 1) 0 - (from + 2) ≡ getD script (from + 1) 0 = omega arith in
+  first-at n e =
+      let l : from + headLength + n - (from + headLength) ≡ leAt 8 script (from + 1) = omega arith in
       let z : from + 0 ≡ from = omega arith in
-      rw (getD-drop from script 0 0, z, getD-drop from script 1 0, drop-drop 2 from script, n)
+      rw (getD-drop from script 0 0, z, size-at, drop-drop headLength from script, l)

@@ -15,7 +15,9 @@ use Rattle.calls.specs.Trace.{Claim, runs, every-list, fresh-runs}
 use Rattle.field.specs.Part.{put}
 use Rattle.model.specs.Trip.{Trip, empty, Call, clear, Answer, answers, after}
 use Rattle.replay.specs.declared.Progress.{Progress}
-use Rattle.replay.specs.Script.{calls, erroneous}
+use Rattle.laws.specs.Lists.{All}
+use Rattle.replay.specs.Script.{calls, erroneous, scriptOf}
+use Rattle.replay.specs.Encoded.{Encodable, script-calls}
 use Rattle.answers.specs.Answers.{answerLength, encode, encodes}
 
 -- the calls of a script whose answers have room in so many bytes
@@ -62,10 +64,15 @@ module _ {script s o : List ℕ} {r : Progress} {s′ o′ : List ℕ} (p : Repl
       (p .wrote ∙ ap encodes (m .0), m .1)
 
   module _ (cs : List Call) (begins : fitting script (length o) ≡ clear ∷ cs) (size : length s ≡ areaLen) where
-    -- Of a script that begins with clear, on an area of the right length, with any bytes in it: THE THEOREM's claim holds of what was made,
+    -- Of a script that begins with clear, on an area of the right length, with any bytes in it: the claim about every list of calls holds of what was made,
     pub replayed-claim : Claim (clear ∷ cs) (p .given) s′
     replayed-claim = every-list size (rw begins at (p .run))
 
     -- and the bytes written are the answers of the reference model from the empty trip, for whose last trip the area stands.
     pub replayed-fresh : (take (r .written) o′ ≡ encodes (answers empty (clear ∷ cs))) × Stands s′ (after empty (clear ∷ cs))
     replayed-fresh = (p .wrote ∙ ap encodes (replayed-claim .answered), fresh-runs size (rw begins at (p .run)) .1)
+
+  -- Every list of calls from a fresh area has a script (specs/Encoded.antt); replayed to its end, it gives the bytes of the reference model's answers to the list.
+  pub replayed-list : (cs : List Call) → All Encodable (clear ∷ cs) → script ≡ scriptOf (clear ∷ cs) → length s ≡ areaLen → r .ended ≡ true
+      → take (r .written) o′ ≡ encodes (answers empty (clear ∷ cs))
+  replayed-list cs e is size ended = replayed-fresh cs (replayed-whole ended ∙ ap calls is ∙ script-calls (clear ∷ cs) e) size .0

@@ -1,11 +1,14 @@
--- A script: a list of calls as bytes. A call is a kind, a length n and n bytes, which are its record, or the number of the window that it reads.
+-- A script: a list of calls as bytes. A call is a kind, a length n of eight bytes, the lowest first, and n bytes, which are its record, or the number of
+-- the window that it reads.
+--     calls, erroneous     the calls of a script, and whether it ends with an error
+--     scriptOf             the script of a list of calls; specs/Encoded.antt says that every list of calls has one
 use mathlib.Core.Bool.{Bool, true, false, cond, not, _&&_}
-use mathlib.Core.List.{List, [], _∷_}
+use mathlib.Core.List.{List, [], _∷_, _++_}
 use mathlib.Core.Path.{_≡_, refl}
 use Prim.Native.Nat.{ℕ, zero, suc, _+_}
 use lib.Dec.{eqb, leb}
 use lib.ListN.{length, getD, take, drop}
-use Rattle.model.specs.Numbers.{leVal}
+use Rattle.model.specs.Numbers.{leVal, leAt, leBytes}
 use Rattle.model.specs.Trip.{Call, clear, declare, sample, close, read, verdict}
 
 -- The window's number is little-endian. Bytes past the fourth do not count, and bytes that are missing are 0.
@@ -24,9 +27,16 @@ callOf kind bytes =
     (cond (eqb kind 3) close
     (cond (eqb kind 4) (read (windowNumber bytes)) verdict))))
 
--- of the call that a script begins with: its bytes together, whether the script has all of them, whether its kind is known, and the call
+-- bytes of a kind and of the length behind it
+abbrev pub headLength : ℕ
+headLength = 1 + 8
+
+-- of the call that a script begins with: the length of its bytes, all of it, whether the script has all of it, whether its kind is known, and the call
+abbrev pub bytesLength : List ℕ → ℕ
+bytesLength script = leAt 8 script 1
+
 abbrev pub callLength : List ℕ → ℕ
-callLength script = 2 + getD script 1 0
+callLength script = headLength + bytesLength script
 
 abbrev pub whole : List ℕ → Bool
 whole script = leb (callLength script) (length script)
@@ -38,7 +48,7 @@ abbrev pub ready : List ℕ → Bool
 ready script = whole script && known script
 
 unfoldable pub first : List ℕ → Call
-first script = callOf (getD script 0 0) (take (getD script 1 0) (drop 2 script))
+first script = callOf (getD script 0 0) (take (bytesLength script) (drop headLength script))
 
 -- The calls of a script, at most as many as the first argument says. The script ends where no whole call of a known kind is left.
 unfoldable pub decode : ℕ → List ℕ → List Call
@@ -57,12 +67,32 @@ calls script = decode (length script) script
 abbrev pub erroneous : List ℕ → Bool
 erroneous script = fails (length script) script
 
+-- a call of a kind with bytes, as a script has it
+unfoldable pub entry : ℕ → List ℕ → List ℕ
+entry kind bytes = kind ∷ (leBytes 8 (length bytes) ++ bytes)
+
+-- the script of a call, and of a list of calls; a window's number has four bytes
+unfoldable pub entryOf : Call → List ℕ
+entryOf clear = entry 0 []
+entryOf (declare r) = entry 1 r
+entryOf (sample r) = entry 2 r
+entryOf close = entry 3 []
+entryOf (read k) = entry 4 (leBytes 4 k)
+entryOf verdict = entry 5 []
+
+unfoldable pub scriptOf : List Call → List ℕ
+scriptOf [] = []
+scriptOf (c ∷ cs) = entryOf c ++ scriptOf cs
+
 -- for instance: clear, read window 3, read window 1 with a fifth byte that does not count, a verdict, and a call whose byte is missing
-example : calls (0 ∷ 0 ∷ 4 ∷ 1 ∷ 3 ∷ 4 ∷ 5 ∷ 1 ∷ 0 ∷ 0 ∷ 0 ∷ 9 ∷ 5 ∷ 0 ∷ 3 ∷ 1 ∷ []) ≡ clear ∷ read 3 ∷ read 1 ∷ verdict ∷ []
-unfolding decode first callOf windowNumber leVal
+example :
+    calls (entry 0 [] ++ (entry 4 (3 ∷ []) ++ (entry 4 (1 ∷ 0 ∷ 0 ∷ 0 ∷ 9 ∷ []) ++ (entry 5 [] ++ (3 ∷ 1 ∷ 0 ∷ 0 ∷ 0 ∷ 0 ∷ 0 ∷ 0 ∷ 0 ∷ [])))))
+    ≡ clear ∷ read 3 ∷ read 1 ∷ verdict ∷ []
+unfolding decode first callOf windowNumber leVal leAt leBytes entry
 example = refl
 
 -- and clear, then a kind that is not known: an error, and the verdict behind it is no call
-unknown-example : (calls (0 ∷ 0 ∷ 6 ∷ 0 ∷ 5 ∷ 0 ∷ []) ≡ clear ∷ []) × (erroneous (0 ∷ 0 ∷ 6 ∷ 0 ∷ 5 ∷ 0 ∷ []) ≡ true)
-unfolding decode fails first callOf windowNumber leVal
+unknown-example :
+    (calls (entry 0 [] ++ (entry 6 [] ++ entry 5 [])) ≡ clear ∷ []) × (erroneous (entry 0 [] ++ (entry 6 [] ++ entry 5 [])) ≡ true)
+unfolding decode fails first callOf windowNumber leVal leAt leBytes entry
 unknown-example = (refl, refl)

@@ -9,6 +9,9 @@ ghost use Rattle.answers.specs.Answers.{answerLength};
 ghost use Rattle.replay.specs.Script.{windowNumber, callOf, callLength, whole, ready, first};
 ghost use Rattle.replay.specs.Replayed.{Called, Replayed};
 
+// Bytes of a call's kind and of the length of what follows, eight bytes.
+const HEAD_LEN: usize = 9;
+
 // The kinds of calls are 0 to this.
 const LAST_KIND: u8 = 5;
 
@@ -69,10 +72,10 @@ fn is_whole(script: &[u8], at: usize) -> bool
     ensures { λ r. ⌜ r ≡ whole (drop at (now (script .entry))) ⌝ }
 {
     let left = script.len() - at;
-    if left < 2 {
+    if left < HEAD_LEN {
         return false;
     }
-    2 + (script[at + 1] as usize) <= left
+    field::get_u64(script, at + 1) <= (left - HEAD_LEN) as u64
 }
 
 // Whether there is a call to make at `at`: a whole one, of a known kind.
@@ -91,8 +94,8 @@ fn perform(area: &mut [u8], script: &[u8], from: usize, out: &mut [u8], at: usiz
     requires { ⌜ (from ≤ length (now script)) × (ready (drop from (now script)) ≡ true) × (at + answerLength ≤ length (now out)) ⌝ }
     ensures { λ r. ⌜ (r ≡ from + callLength (drop from (now (script .entry)))) × Called (first (drop from (now (script .entry)))) (now (area .entry)) (now (out .entry)) at (now (area .exit)) (now (out .exit)) ⌝ }
 {
-    let start = from + 2;
-    let end = start + (script[from + 1] as usize);
+    let start = from + HEAD_LEN;
+    let end = start + (field::get_u64(script, from + 1) as usize);
     call(area, script[from], &script[start..end], out, at);
     end
 }

@@ -1,7 +1,7 @@
 -- What `store` and `take` promise, from what they did to the area's parts. Assumes nothing.
 use mathlib.Core.List.{List}
 use mathlib.Core.Path.{_≡_, refl, sym, ap, _∙_, subst}
-use Prim.Native.Nat.{ℕ, _+_, _<_}
+use Prim.Native.Nat.{ℕ, _+_}
 use native.Mathlib.Omega.{arith}
 use lib.IntN.{ℤ}
 use Rattle.model.specs.declared.Sample.{Sample}
@@ -13,8 +13,8 @@ use Rattle.model.specs.Trip.{Trip, number, refused}
 use Rattle.power.specs.Speeds.{Appended}
 use Rattle.tally.specs.Add.{added}
 use Rattle.window.specs.Sweep.{Stepped}
-use Rattle.area.specs.Layout.{samplesPart, tallyPart, speedsPart, slotsPart, Parts, partsOf, with, closedMark, windowCount, tallyIn, speedsIn, slotsIn}
-use Rattle.area.specs.Stands.{Stands}
+use Rattle.area.specs.Layout.{samplesPart, tallyPart, speedsPart, slotsPart, Parts, partsOf, with, closedMark, windowCount, formatMark, tallyIn, speedsIn, slotsIn}
+use Rattle.area.specs.Stands.{damaged, Stands}
 use Rattle.area.specs.Effects.{Changed, Numbered}
 use Rattle.area_windows.specs.Effects.{CountedMoves}
 use Rattle.taking.specs.Effects.{Taken, Accepts, number-fine}
@@ -34,6 +34,7 @@ taken {k} {n} {r} {v} {tl} {p} {p₁} {p₂} {p₃} {q} e w a f =
     record {
       mark = ap closedMark (f .is) ∙ ap closedMark (a .is) ∙ ap closedMark (w .is) ∙ ap closedMark e;
       windows = ap windowCount (f .is) ∙ ap windowCount (a .is) ∙ ap windowCount (w .is) ∙ ap windowCount e;
+      format = ap formatMark (f .is) ∙ ap formatMark (a .is) ∙ ap formatMark (w .is) ∙ ap formatMark e;
       tally = ap tallyIn (f .is) ∙ ap tallyIn (a .is) ∙ ap tallyIn (w .is) ∙ ap tallyIn e;
       samples = f .value;
       added = subst (Appended n v (speedsIn p)) (sym speeds) (subst (λ (l : List ℕ). Appended n v l (speedsIn p₃)) old-speeds (a .by));
@@ -50,14 +51,14 @@ take-done {s} {s′} {r} {n} {k} {z} {x₀} {t} {u} ek ex et eu x c = record {
       let y₂ = subst (λ (v : Tally). Taken (windowCount (partsOf s)) n r (x₀ .speed) v (partsOf s) (partsOf s′)) (eu ∙ ap (λ (v : Tally). added v x₀) et) y₁ in
       let y₃ = subst (λ (w : Sample). Taken (windowCount (partsOf s)) n r (w .speed) (added (tallyFrom (tallyIn (partsOf s))) w) (partsOf s) (partsOf s′)) ex y₂ in
       (y₃, λ h. sym f ∙ c h);
-  damaged = λ j e. absurd (number-fine z j e);
+  unsound = λ j e. absurd (number-fine z j e);
   unjudged = λ v e. let w : _≡_ {A = ℕ} 0 1 = cc in absurd (omega arith);
 }
 
 -- or the area is damaged
-pub take-damaged : {s r : List ℕ} {n k : ℕ} → 0 < k → ((t : Trip) → Stands s t → ⊥) → Accepts r n s (refused k) s
-take-damaged {k = k} p g = record {
-  taken = λ z e. absurd (number-fine z k (sym e));
-  damaged = λ j e. let f : k ≡ j = cc in (refl, (omega arith, g));
+pub take-damaged : {s r : List ℕ} {n : ℕ} → ((t : Trip) → Stands s t → ⊥) → Accepts r n s (refused damaged) s
+take-damaged g = record {
+  taken = λ z e. absurd (number-fine z damaged (sym e));
+  unsound = λ j e. let f : damaged ≡ j = cc in (refl, (sym f, g));
   unjudged = λ v e. let w : _≡_ {A = ℕ} 0 1 = cc in absurd (omega arith);
 }

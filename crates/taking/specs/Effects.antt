@@ -16,14 +16,15 @@ use Rattle.model.specs.Trip.{Trip, Answer, number, judged, refused}
 use Rattle.power.specs.Speeds.{Appended}
 use Rattle.tally.specs.Add.{added}
 use Rattle.window.specs.Sweep.{Stepped}
-use Rattle.area.specs.Layout.{areaLen, Parts, partsOf, sampleCount, closedMark, windowCount, tallyIn, speedsIn, slotsIn}
-use Rattle.area.specs.Stands.{Stands}
+use Rattle.area.specs.Layout.{areaLen, Parts, partsOf, sampleCount, closedMark, windowCount, formatMark, tallyIn, speedsIn, slotsIn}
+use Rattle.area.specs.Stands.{damaged, Stands}
 use Rattle.area_windows.specs.Effects.{CountedMoves}
 
 -- the sample of second n is taken: the tally, the windows, the speeds and the number of samples are new
 pub record Taken (k n : ℕ) (r : List ℕ) (v : Speed) (t : Tally) (p q : Parts) : Type 0 where
   pub mark : closedMark q ≡ closedMark p
   pub windows : windowCount q ≡ windowCount p
+  pub format : formatMark q ≡ formatMark p
   pub tally : tallyIn q ≡ tallyBytes t
   pub samples : sampleCount q ≡ n + 1
   pub added : Appended n v (speedsIn p) (speedsIn q)
@@ -39,12 +40,12 @@ pub record Taking (area r : List ℕ) (s : Sample) (n : ℕ) : Type 0 where
   pub range : inRange s ≡ true
 
 -- what taking the sample of record r, second n, promises of the answer a: the sample is taken with the tally that the area holds, and the answer is the
--- moves; or a refusal, only of an area that stands for no trip, which changes nothing
+-- moves; or the refusal of an area that stands for no trip, which changes nothing
 pub record Accepts (r : List ℕ) (n : ℕ) (s : List ℕ) (a : Answer) (s′ : List ℕ) : Type 0 where
   pub taken :
       (z : ℤ) → a ≡ number z
       → Taken (windowCount (partsOf s)) n r (sampleOf r .speed) (added (tallyFrom (tallyIn (partsOf s))) (sampleOf r)) (partsOf s) (partsOf s′) × CountedMoves (partsOf s′) z
-  pub damaged : (k : ℕ) → a ≡ refused k → (s′ ≡ s) × ((0 < k) × ((t : Trip) → Stands s t → ⊥))
+  pub unsound : (k : ℕ) → a ≡ refused k → (s′ ≡ s) × ((k ≡ damaged) × ((t : Trip) → Stands s t → ⊥))
   pub unjudged : (v : Verdict) → a ≡ judged v → ⊥
 
 -- a number is no refusal

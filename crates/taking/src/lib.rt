@@ -1,5 +1,6 @@
 // A sample whose turn it is goes into every part of the state area; an area that is found to be one that no list of calls leaves is refused.
 // specs/Effects.antt says what is promised, specs/Damaged.antt has the laws of the areas that stand for no trip.
+use area::DAMAGED;
 use model::Answer;
 use model::MAX_WINDOWS;
 use model::Sample;
@@ -9,9 +10,6 @@ ghost use Rattle.model.specs.Answers.{answerOf};
 ghost use Rattle.area_windows.specs.Effects.{Stepping};
 ghost use Rattle.area.specs.Layout.{partsOf};
 ghost use Rattle.taking.specs.Effects.{Taken, Taking, Accepts};
-
-// The refusal of an area that is found to be one that no list of calls leaves; document 01 leaves the number free.
-pub const DAMAGED: u32 = 255;
 
 // The sample of second n, of this record and speed, goes into every part of the area; t is the tally with it.
 fn store(area: &mut [u8], record: &[u8], v: Speed, n: u32, k: u32, t: Tally)

@@ -12,7 +12,7 @@ use Rattle.area_windows.proofs.moves.Tie as tie
 
 returns : tie.Need-returns
 unfolding partsOf part place size before lengths
-returns c h = toZ-pos w64 (c .before .moves .result) (c .if1 .taken) ∙ ap pos (c .before .moves .ensures)
+returns c h = toZ-pos w64 (c .before .moves .result) (omega (arith, c .if1 .taken)) ∙ ap pos (c .before .moves .ensures)
 
 returns-2 : tie.Need-returns-2
 unfolding partsOf part place size before lengths

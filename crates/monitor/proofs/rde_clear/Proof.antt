@@ -1,4 +1,5 @@
 -- `monitor::rde_clear` meets its contract. Assumes nothing.
+use mathlib.Core.Path.{refl}
 use Rattle.monitor.proofs.Laws.{stepped}
 use borrow.Author.Needs.{needs}
 use Rattle.monitor.proofs.rde_clear.Statement.{statement}
@@ -7,7 +8,7 @@ use Rattle.monitor.proofs.rde_clear.Tie as tie
 returns : tie.Need-returns
 returns c =
     let told = c .before .before .before in
-    stepped (told .clear .result) (c .reply .ensures) (told .clear .ensures)
+    stepped (told .clear .result) refl (c .reply .ensures) (told .clear .ensures)
 
 pub rde-clear-spec : {M : Type 1} → statement M
 rde-clear-spec =

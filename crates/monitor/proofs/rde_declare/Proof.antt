@@ -1,4 +1,5 @@
 -- `monitor::rde_declare` meets its contract. Assumes nothing.
+use mathlib.Core.Path.{refl}
 use Rattle.monitor.proofs.Laws.{stepped}
 use borrow.Author.Needs.{needs}
 use Rattle.monitor.proofs.rde_declare.Statement.{statement}
@@ -7,7 +8,7 @@ use Rattle.monitor.proofs.rde_declare.Tie as tie
 returns : tie.Need-returns
 returns c =
     let told = c .before .before .before in
-    stepped (told .declare .result) (c .reply .ensures) (told .declare .ensures)
+    stepped (told .declare .result) refl (c .reply .ensures) (told .declare .ensures)
 
 pub rde-declare-spec : {M : Type 1} → statement M
 rde-declare-spec =

@@ -3,7 +3,6 @@ use mathlib.Core.Path.{sym, ap, _∙_}
 use mir.Syntax.{w64}
 use mir.ValLaws.{toZ-ofZ}
 use native.Mathlib.Omega.{arith}
-use lib.Dec.{lit<}
 use borrow.Author.Needs.{needs}
 use borrow.Author.Tests.{not-true, not-false}
 use Rattle.model.specs.Tallies.{sound}
@@ -14,18 +13,18 @@ use Rattle.taking.proofs.take.Statement.{statement}
 use Rattle.taking.proofs.take.Tie as tie
 
 returns : tie.Need-returns
-returns c = take-damaged (lit< tt) (many-windows _ (omega (arith, c .before .windows .ensures)))
+returns c = take-damaged (many-windows _ (omega (arith, c .before .windows .ensures)))
 
 returns-2 : tie.Need-returns-2
 returns-2 c =
     let windows = c .before .before .before .before in
     let start = windows .before .before .before .before in
-    take-damaged (lit< tt) (unsound (windows .windows .ensures) (start .pre .turn) (c .before .sound-windows .ensures) (not-true _ (c .if2 .taken)))
+    take-damaged (unsound (windows .windows .ensures) (start .pre .turn) (c .before .sound-windows .ensures) (not-true _ (c .if2 .taken)))
 
 returns-3 : tie.Need-returns-3
 returns-3 c =
     let sound-test = c .before in
-    take-damaged (lit< tt)
+    take-damaged
     (ill-formed _ (ap sound (sym (sound-test .before .read-tally .ensures)) ∙ sym (sound-test .is-sound .ensures) ∙ not-true _ (c .if3 .taken)))
 
 add-requires : tie.Need-add-requires

@@ -7,7 +7,7 @@ compare.py --files FOLDER: writes the list that `rt check` runs the program on,
 and what it must write, as the files stdin and stdout of the folder.
 
 A call is a kind, a length of eight bytes and as many bytes; an answer is nine bytes: what it
-is, then its numbers, little-endian (crates/replay/specs, crates/answers/specs).
+is, then its numbers, little-endian (crates/script/specs, crates/answers/specs).
 """
 
 import os

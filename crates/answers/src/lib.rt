@@ -18,7 +18,7 @@ fn put_number(out: &mut [u8], at: usize, z: i64)
     ensures { λ _. ⌜ now (out .exit) ≡ put (now (out .entry)) at (encode (trip.number z)) ⌝ }
 {
     field::put_le(out, at, 1, 0);
-    field::put_i64(out, at + 1, z);
+    signed_field::put_i64(out, at + 1, z);
 }
 
 fn put_refusal(out: &mut [u8], at: usize, k: u32)

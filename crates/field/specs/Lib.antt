@@ -1,5 +1,4 @@
--- Fields of a list of bytes: parts and puts, little-endian numbers, signed numbers, and arrays of cells.
+-- Fields of a list of bytes: parts and puts, little-endian numbers, and arrays of cells.
 pub mod Part
 pub mod Le
-pub mod Twos
 pub mod Cells

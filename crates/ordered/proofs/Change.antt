@@ -7,7 +7,7 @@ use lib.IntN.{ℤ}
 use lib.ListN.{length, drop}
 use Rattle.model.specs.Numbers.{unsigned}
 use Rattle.field.specs.Le.{putLe}
-use Rattle.field.specs.Twos.{unsigned-below, signed-unsigned}
+use Rattle.signed_field.specs.Twos.{unsigned-below, signed-unsigned}
 use Rattle.laws.specs.Lists.{In, without}
 use Rattle.slide.specs.Ordered.{Sorted, insert, removeOne}
 use Rattle.ordered.specs.Store.{Storable, valuesOf, values-length, values-take}

@@ -16,7 +16,7 @@ pub fn at(store: &[u8], i: usize) -> i64
     requires { ⌜ 4 * i + 4 ≤ length (now store) ⌝ }
     ensures { λ r. ⌜ (r ≡ valueAt (now (store .entry)) i) × Storable r ⌝ }
 {
-    field::get_i32(store, 4 * i) as i64
+    signed_field::get_i32(store, 4 * i) as i64
 }
 
 // The place of z among the first m values: before the first that is not less, where they are in order.
@@ -72,7 +72,7 @@ pub fn insert(store: &mut [u8], m: usize, z: i64)
 {
     let p = place(store, m, z);
     shift_up(store, m, p);
-    field::put_i32(store, 4 * p, z as i32);
+    signed_field::put_i32(store, 4 * p, z as i32);
 }
 
 // One z goes from the first m values, which are in order and of which z is one.

@@ -14,10 +14,10 @@ use Rattle.field.specs.Part.{put, part, put-nil, put-append, put-length, part-s
 use Rattle.model.specs.Numbers.{unsigned}
 use Rattle.model.specs.Answers.{findingCode}
 use Rattle.model.specs.Trip.{Call, Answer, number, judged, refused}
-use Rattle.replay.specs.Script.{callLength, whole, known, ready, first, decode, fails, calls, erroneous}
+use Rattle.script.specs.Script.{callLength, whole, known, ready, first, decode, fails, calls, erroneous}
 use Rattle.answers.specs.Answers.{answerLength, encode, encodes}
 use Rattle.replay.specs.Replayed.{fitting, Called, Replayed}
-use Rattle.replay.proofs.Place.{inside, ready-whole, failed-at}
+use Rattle.script.specs.Place.{inside, ready-whole, failed-at}
 
 -- the first calls of the script were made, from the area s₀ and the output o₀, which are now s and o; `from` is the place of the next
 pub record Going (s₀ script o₀ s o : List ℕ) (from made written : ℕ) : Type 0 where

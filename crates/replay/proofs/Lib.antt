@@ -1,3 +1,2 @@
 pub mod Dispatch
-pub mod Place
 pub mod Going

@@ -16,8 +16,8 @@ use Rattle.field.specs.Part.{put}
 use Rattle.model.specs.Trip.{Trip, empty, Call, clear, Answer, answers, after}
 use Rattle.replay.specs.declared.Progress.{Progress}
 use Rattle.laws.specs.Lists.{All}
-use Rattle.replay.specs.Script.{calls, erroneous, scriptOf}
-use Rattle.replay.specs.Encoded.{Encodable, script-calls}
+use Rattle.script.specs.Script.{calls, erroneous, scriptOf}
+use Rattle.script.specs.Encoded.{Encodable, script-calls}
 use Rattle.answers.specs.Answers.{answerLength, encode, encodes}
 
 -- the calls of a script whose answers have room in so many bytes
@@ -72,7 +72,7 @@ module _ {script s o : List ℕ} {r : Progress} {s′ o′ : List ℕ} (p : Repl
     pub replayed-fresh : (take (r .written) o′ ≡ encodes (answers empty (clear ∷ cs))) × Stands s′ (after empty (clear ∷ cs))
     replayed-fresh = (p .wrote ∙ ap encodes (replayed-claim .answered), fresh-runs size (rw begins at (p .run)) .1)
 
-  -- Every list of calls from a fresh area has a script (specs/Encoded.antt); replayed to its end, it gives the bytes of the reference model's answers to the list.
+  -- Every list of calls from a fresh area has a script (crates/script/specs/Encoded.antt); replayed to its end, it gives the bytes of the reference model's answers to the list.
   pub replayed-list : (cs : List Call) → All Encodable (clear ∷ cs) → script ≡ scriptOf (clear ∷ cs) → length s ≡ areaLen → r .ended ≡ true
       → take (r .written) o′ ≡ encodes (answers empty (clear ∷ cs))
   replayed-list cs e is size ended = replayed-fresh cs (replayed-whole ended ∙ ap calls is ∙ script-calls (clear ∷ cs) e) size .0

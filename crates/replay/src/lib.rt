@@ -1,19 +1,14 @@
 // Makes the calls of a script on the state area and writes their answers as bytes (crate answers): the claim about every list of calls holds of this code.
-// specs/Script.antt says what a script is, specs/Replayed.antt what is promised.
+// Crate script says what a script is, specs/Replayed.antt what is promised.
 use answers::ANSWER_LEN;
+use script::HEAD_LEN;
 ghost use mathlib.Core.Bool.{true};
 ghost use mathlib.Core.Path.{_≡_};
 ghost use Prim.Native.Nat.{_+_, _≤_};
 ghost use lib.ListN.{length, drop};
 ghost use Rattle.answers.specs.Answers.{answerLength};
-ghost use Rattle.replay.specs.Script.{windowNumber, callOf, callLength, whole, ready, first};
+ghost use Rattle.script.specs.Script.{callOf, callLength, ready, first};
 ghost use Rattle.replay.specs.Replayed.{Called, Replayed};
-
-// Bytes of a call's kind and of the length of what follows, eight bytes.
-const HEAD_LEN: usize = 9;
-
-// The kinds of calls are 0 to this.
-const LAST_KIND: u8 = 5;
 
 // How far a replay came.
 pub struct Progress {
@@ -25,17 +20,6 @@ pub struct Progress {
     pub ended: bool,
     // Whether what follows them is an error: a call of a kind that is not known.
     pub failed: bool,
-}
-
-// The window that a call reads.
-fn window_number(bytes: &[u8]) -> u32
-    ensures { λ r. ⌜ r ≡ windowNumber (now (bytes .entry)) ⌝ }
-{
-    let n = bytes.len();
-    if n < 4 {
-        return field::get_le(bytes, 0, n) as u32;
-    }
-    field::get_u32(bytes, 0)
 }
 
 // Makes one call and writes its answer.
@@ -60,33 +44,10 @@ fn call(area: &mut [u8], kind: u8, bytes: &[u8], out: &mut [u8], at: usize)
         return;
     }
     if kind == 4 {
-        answers::put_answer(out, at, calls::read(area, window_number(bytes)));
+        answers::put_answer(out, at, calls::read(area, script::window_number(bytes)));
         return;
     }
     answers::put_verdict_answer(out, at, calls::verdict(area));
-}
-
-// Whether the script has the whole of a call from `at` on.
-fn is_whole(script: &[u8], at: usize) -> bool
-    requires { ⌜ at ≤ length (now script) ⌝ }
-    ensures { λ r. ⌜ r ≡ whole (drop at (now (script .entry))) ⌝ }
-{
-    let left = script.len() - at;
-    if left < HEAD_LEN {
-        return false;
-    }
-    field::get_u64(script, at + 1) <= (left - HEAD_LEN) as u64
-}
-
-// Whether there is a call to make at `at`: a whole one, of a known kind.
-fn has_call(script: &[u8], at: usize) -> bool
-    requires { ⌜ at ≤ length (now script) ⌝ }
-    ensures { λ r. ⌜ r ≡ ready (drop at (now (script .entry))) ⌝ }
-{
-    if is_whole(script, at) {
-        return script[at] <= LAST_KIND;
-    }
-    false
 }
 
 // Makes the call at `from` of the script and writes its answer; gives the place of the next call.
@@ -107,7 +68,7 @@ pub fn replay(area: &mut [u8], script: &[u8], out: &mut [u8]) -> Progress
     let mut from: usize = 0;
     let mut made: usize = 0;
     let mut written: usize = 0;
-    while has_call(script, from) {
+    while script::has_call(script, from) {
         if out.len() - written < ANSWER_LEN {
             return Progress {
                 made: made,
@@ -124,6 +85,6 @@ pub fn replay(area: &mut [u8], script: &[u8], out: &mut [u8]) -> Progress
         made: made,
         written: written,
         ended: true,
-        failed: is_whole(script, from),
+        failed: script::is_whole(script, from),
     }
 }

@@ -18,7 +18,7 @@ use Rattle.model.specs.Numbers.{leVal, leAt, leBytes, unsigned}
 use Rattle.model.specs.Records.{recordLength, maxWindows}
 use Rattle.field.specs.Part.{part, put, Apart, put-length, part-same, part-other, part-in}
 use Rattle.field.specs.Le.{putLe, bytes-length, le-under, le-put, part-le}
-use Rattle.field.specs.Twos.{signed-same}
+use Rattle.signed_field.specs.Twos.{signed-same}
 use Rattle.slots.specs.Layout.{partLen, ringSeconds, expressionsLen, expressionsOf, frontLen, frontOf, recordPlace, recordOf, record-front, movesPlace}
 use Rattle.slots.specs.Layout.{movesOf, slotsPlace, slotLen, slotOf, slot-length, countPlace, sumPlace, totalsLen, firstPlace}
 use Rattle.slots.specs.Layout.{countIn, sumIn, recordIn}

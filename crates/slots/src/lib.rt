@@ -109,7 +109,7 @@ pub fn sum(part: &[u8], k: usize) -> i64
     requires { ⌜ (length (now part) ≡ partLen) × (k < maxWindows) ⌝ }
     ensures { λ r. ⌜ r ≡ sumIn (slotOf (now (part .entry)) k) ⌝ }
 {
-    field::get_i64(part, SLOTS + SLOT_LEN * k + SUM)
+    signed_field::get_i64(part, SLOTS + SLOT_LEN * k + SUM)
 }
 
 // The place of the list's first entry.
@@ -149,7 +149,7 @@ fn limit(part: &[u8], k: usize, o: usize) -> i32
     requires { ⌜ SlotField (now part) k o 4 ⌝ }
     ensures { λ r. ⌜ r ≡ signed 4 (leAt 4 (slotOf (now (part .entry)) k) o) ⌝ }
 {
-    field::get_i32(part, SLOTS + SLOT_LEN * k + o)
+    signed_field::get_i32(part, SLOTS + SLOT_LEN * k + o)
 }
 
 // Whether a second qualifies for slot k's window, by the ring's records.
@@ -188,7 +188,7 @@ pub fn put_count_sum(part: &mut [u8], k: usize, count: u32, sum: i64)
     ensures { λ _. ⌜ Totalled k count sum (now (part .entry)) (now (part .exit)) ⌝ }
 {
     slot_put(part, k, COUNT, 4, count as u64);
-    field::put_i64(part, SLOTS + SLOT_LEN * k + SUM, sum);
+    signed_field::put_i64(part, SLOTS + SLOT_LEN * k + SUM, sum);
 }
 
 // Slot k starts with a window record: nothing counted. Its list, which clear has emptied, is not written.

@@ -1,7 +1,8 @@
 // The program `vectors`: reads a script of calls from standard input, makes them on an area of zero bytes and writes the answers, nine bytes each.
 // At most 262,144 bytes of script are read and 14,563 answers written; calls beyond are not made. A script should begin with clear. A call of an
 // unknown kind ends it, which is said on standard error.
-// crates/replay/specs says what a script is, and that, after a clear, the answers are the reference model's; crates/answers/specs what their bytes are.
+// crates/script/specs says what a script is, crates/replay/specs that, after a clear, the answers are the reference model's, crates/answers/specs what their
+// bytes are.
 use libc::STDERR_FILENO;
 use libc::STDIN_FILENO;
 use libc::STDOUT_FILENO;

@@ -6,8 +6,8 @@ use borrow.Author.Needs.{needs}
 use denote.Ref.{now}
 use lib.ListN.{length}
 use Rattle.model.specs.Numbers.{leAt}
-use Rattle.replay.specs.Script.{headLength}
-use Rattle.replay.proofs.Place.{ready-whole, inside, length-at, first-at}
+use Rattle.script.specs.Script.{headLength}
+use Rattle.script.specs.Place.{ready-whole, inside, length-at, first-at}
 use Rattle.replay.proofs.perform.Statement.{statement}
 use Rattle.replay.proofs.perform.Tie as tie
 

@@ -5,7 +5,7 @@ use Prim.Native.Nat.{_-_}
 use borrow.Author.Needs.{needs}
 use lib.ListN.{length, drop}
 use denote.Ref.{now}
-use Rattle.replay.specs.Script.{ready}
+use Rattle.script.specs.Script.{ready}
 use Rattle.replay.proofs.Going.{Going, going-start, going-more, closer, full, spent}
 use Rattle.replay.proofs.replay.Statement.{statement}
 use Rattle.replay.proofs.replay.Tie as tie

@@ -1,0 +1,2 @@
+-- What the functions on scripts rest on.
+mod Number

@@ -1,9 +1,12 @@
 /* Judges a recorded drive: reads sample records from a file, shows the readings of three windows every ten minutes, and ends with
- * the verdict in words. Build and run, after `rt staticlib monitor`:
+ * the verdict in words. At a refused record or a file that it cannot read it stops with a message and exit status 1. Build and run,
+ * after `rt staticlib monitor`:
  *     gcc -std=c11 -Wall -Wextra -Werror -Iinclude examples/judge.c target/staticlib/libmonitor.a -o target/judge
  *     target/judge examples/drives/clean.drive */
+#include <errno.h>
 #include <inttypes.h>
 #include <stdio.h>
+#include <string.h>
 
 #include "rde.h"
 
@@ -16,12 +19,7 @@ static const uint8_t windows[3][RDE_RECORD_LEN] = {
     {5, 4, 0, 0, 0x3c, 0x00, 0, 0, 0x0a, 0, 0, 0, 0xb8, 0x0b, 0, 0}, /* 95th percentile of NOx in a minute, while moving */
 };
 
-static const char *const rules[] = {
-    "shorter than 90 minutes", "longer than 120 minutes", "urban share of the distance", "rural share of the distance",
-    "motorway share of the distance", "less than 16 km urban", "less than 16 km rural", "less than 16 km motorway",
-    "share of stops", "urban mean speed", "less than 5 minutes above 100 km/h", "above 160 km/h", "too long above 145 km/h",
-    "temperature", "altitude", "too little acceleration, urban", "too little acceleration, rural",
-    "too little acceleration, motorway", "driven too hard, urban", "driven too hard, rural", "driven too hard, motorway"};
+static const char *const rules[RDE_RULES] = RDE_RULE_NAMES;
 
 static void show_readings(long second)
 {
@@ -41,10 +39,10 @@ static int show_verdict(void)
 {
     rde_verdict_answer v = rde_verdict(area, sizeof area);
     if (v.refusal != RDE_OK) {
-        printf("no verdict: refusal %" PRIu32 "\n", v.refusal);
+        fprintf(stderr, "judge: no verdict: refusal %" PRIu32 "\n", v.refusal);
         return 1;
     }
-    for (uint32_t k = 0; k < sizeof rules / sizeof rules[0]; k++)
+    for (uint32_t k = 0; k < RDE_RULES; k++)
         if (v.broken >> k & 1)
             printf("rule %" PRIu32 " broken: %s\n", k, rules[k]);
     printf("NOx limit %s\n", v.exceeded ? "exceeded" : "kept");
@@ -60,35 +58,43 @@ static int show_verdict(void)
 /* A fresh trip with the three windows. */
 static int start(void)
 {
-    if (rde_clear(area, sizeof area).refusal != RDE_OK)
-        return 0;
-    for (int w = 0; w < 3; w++)
-        if (rde_declare(area, sizeof area, windows[w], RDE_RECORD_LEN).refusal != RDE_OK)
-            return 0;
-    return 1;
+    rde_answer a = rde_clear(area, sizeof area);
+    for (int w = 0; w < 3 && a.refusal == RDE_OK; w++)
+        a = rde_declare(area, sizeof area, windows[w], RDE_RECORD_LEN);
+    if (a.refusal != RDE_OK)
+        fprintf(stderr, "judge: no trip with these windows: refusal %" PRIu32 "\n", a.refusal);
+    return a.refusal == RDE_OK;
 }
 
 int main(int argc, char **argv)
 {
     uint8_t record[RDE_RECORD_LEN];
     long second = 0;
-    FILE *drive = argc == 2 ? fopen(argv[1], "rb") : NULL;
-    if (drive == NULL) {
+    if (argc != 2) {
         fprintf(stderr, "usage: judge FILE\n");
         return 2;
     }
+    FILE *drive = fopen(argv[1], "rb");
+    if (drive == NULL) {
+        fprintf(stderr, "judge: cannot open %s: %s\n", argv[1], strerror(errno));
+        return 1;
+    }
     if (!start())
-        return 2;
+        return 1;
     /* a last piece that is no whole record is refused too */
     for (size_t got; (got = fread(record, 1, sizeof record, drive)) > 0;) {
         rde_answer a = rde_sample(area, sizeof area, record, got);
         if (a.refusal != RDE_OK) {
-            printf("sample %ld refused: %" PRIu32 "\n", second, a.refusal);
-            break;
+            fprintf(stderr, "judge: sample %ld refused: %" PRIu32 "\n", second, a.refusal);
+            return 1;
         }
         second++;
         if (second % 600 == 0)
             show_readings(second);
+    }
+    if (ferror(drive)) {
+        fprintf(stderr, "judge: cannot read %s: %s\n", argv[1], strerror(errno));
+        return 1;
     }
     fclose(drive);
     rde_close(area, sizeof area);

@@ -12,6 +12,22 @@
  *
  * After a refused sample the trip is as it was: the next record has the same second, and no second can be left out. What stands for a
  * sensor that fails is the caller's choice.
+ *
+ * Target: the library is for x86-64 and the System V ABI, in 64-bit mode, with SSE2; the toolchain has no other target. The stack is
+ * aligned to 16 bytes at a call, as that ABI asks, and the 128 bytes below the stack pointer (the red zone) are used: no interrupt may
+ * run on the stack that a call runs on. XMM registers are used: SSE is switched on, and an interrupt that uses them saves them. No C
+ * library, no thread-local storage, no floating-point numbers.
+ * The most stack that a call takes, in bytes from the caller's stack pointer down to the lowest byte that it writes, its return
+ * address among them (measured, of the library as this toolchain builds it: tests/stack/run):
+ *     rde_area_len  8
+ *     rde_clear     8
+ *     rde_declare   72
+ *     rde_sample    304
+ *     rde_close     8
+ *     rde_read      8
+ *     rde_verdict   472
+ *     rde_tally     144
+ *     rde_join      440
  */
 #ifndef RDE_H
 #define RDE_H
@@ -60,6 +76,22 @@ enum {
     RDE_JOINED = 13,        /* joined tallies over 7201 samples */
     RDE_DAMAGED = 255       /* the area was never cleared, or holds what no list of calls leaves; only rde_clear helps */
 };
+
+/* What to do at each refusal:
+ *     RDE_RECORD_LENGTH   a fault of the calling program: lend RDE_RECORD_LEN bytes; a block: a whole number of records
+ *     RDE_CLOSED          the trip has ended: read it, judge it, or rde_clear for the next
+ *     RDE_SECOND          a sample was lost or given twice: give the one due, of the second that is the number of samples taken
+ *     RDE_RANGE           a sensor is out of its range: give a record with a value that stands for it, or give the trip or block up
+ *     RDE_FULL            the trip is as long as it can be, and rule 1 is broken: rde_close; a block: keep it in parts
+ *     RDE_WINDOW          a fault of the calling program: mend the window record
+ *     RDE_STARTED         declare windows before the first sample; for this trip it is too late
+ *     RDE_WINDOWS_FULL    do without the window, or rde_clear and declare others
+ *     RDE_NO_WINDOW       a fault of the calling program: ask for a number that rde_declare gave since the last rde_clear
+ *     RDE_NONE_QUALIFIES  no fault: there is nothing to show now; ask again after the next sample
+ *     RDE_LENGTH          a fault of the calling program: lend an area of RDE_AREA_LEN bytes, an output of RDE_TALLY_LEN
+ *     RDE_TALLY           a tally that has not RDE_TALLY_LEN bytes, or was damaged: tally its block again
+ *     RDE_JOINED          the two are more than a trip: keep them apart
+ *     RDE_DAMAGED         rde_clear; if the area was cleared by this version before, its trip is lost: look for what wrote to it */
 
 /* The findings of a verdict beside the rules' numbers. */
 enum {
@@ -132,6 +164,33 @@ enum {
  *              10000 x P95 x N > 2592 x (136 x S + 144400 x N); else 100000 x P95 x N > 2592 x (742 x S + 1896600 x N)
  * Exceeded, told also where rules are broken: D > 0 and 1586 x (sum of channel 6) > 80000 x D, which is above 80 mg/km. */
 
+/* The rules' names in words: const char *const names[RDE_RULES] = RDE_RULE_NAMES; */
+#define RDE_RULES 21
+#define RDE_RULE_NAMES \
+    { \
+        "shorter than 90 minutes",                                 /*  0 */ \
+        "longer than 120 minutes",                                 /*  1 */ \
+        "urban share of the distance outside 29 to 44 percent",    /*  2 */ \
+        "rural share of the distance outside 23 to 43 percent",    /*  3 */ \
+        "motorway share of the distance outside 23 to 43 percent", /*  4 */ \
+        "less than 16 km urban",                                   /*  5 */ \
+        "less than 16 km rural",                                   /*  6 */ \
+        "less than 16 km motorway",                                /*  7 */ \
+        "stops outside 6 to 30 percent of the urban time",         /*  8 */ \
+        "urban mean speed outside 15 to 40 km/h",                  /*  9 */ \
+        "less than 5 minutes above 100 km/h",                      /* 10 */ \
+        "above 160 km/h",                                          /* 11 */ \
+        "more than 3 percent of the motorway time above 145 km/h", /* 12 */ \
+        "temperature outside 266 to 308 K",                        /* 13 */ \
+        "above 1300 m",                                            /* 14 */ \
+        "too little acceleration, urban",                          /* 15 */ \
+        "too little acceleration, rural",                          /* 16 */ \
+        "too little acceleration, motorway",                       /* 17 */ \
+        "driven too hard, urban",                                  /* 18 */ \
+        "driven too hard, rural",                                  /* 19 */ \
+        "driven too hard, motorway"                                /* 20 */ \
+    }
+
 /* The length that every area must have. */
 size_t rde_area_len(void);
 
@@ -159,9 +218,10 @@ rde_answer rde_read(const uint8_t *area, size_t area_len, uint32_t window);
 rde_verdict_answer rde_verdict(const uint8_t *area, size_t area_len);
 
 /* RDE_DAMAGED is given right after RDE_LENGTH and RDE_RECORD_LENGTH, by every call but rde_clear, for an area without the mark that
- * rde_clear writes; besides, last by rde_sample, by rde_verdict, and by rde_read for a number of 16 or more that the area claims to
- * have. An area that the six calls alone have written since an accepted rde_clear never gives it. RDE_LENGTH and RDE_RECORD_LENGTH are
- * given exactly when due on any area. Not all damage is found: a damaged area may as well give other refusals or wrong values. */
+ * rde_clear writes; besides, last by rde_sample where the area claims to have more than 16 windows, by rde_read for a number of 16 or
+ * more that the area claims to have, and by rde_verdict where it claims more than 7201 samples or its tally is ill-formed. An area
+ * that the six calls alone have written since an accepted rde_clear never gives it. RDE_LENGTH and RDE_RECORD_LENGTH are given exactly
+ * when due on any area. Not all damage is found: a damaged area may as well give other refusals or wrong values. */
 
 /* The tally of a block of sample records (their seconds are not looked at) into out, which has exactly RDE_TALLY_LEN bytes and
  * shares no byte with block. Value 0.

@@ -1,6 +1,8 @@
 """Writes the recorded example drives: sample records of 16 bytes, one a second.
 
-Run: python3 examples/drives/make.py
+Run: python3 examples/drives/make.py [FOLDER]
+
+They go to FOLDER, else to the folder of this file.
 
 clean.drive      90 minutes of town, country and motorway in the shares of Annex IIIA, which break no rule
 exceeded.drive   the same drive with NOx above 80 mg/km
@@ -11,6 +13,7 @@ The speed profile is that of tests/reckoning/drives.py: a town part with stops a
 65.0 and 85.1 km/h, then between 101.0 and 119.1 km/h, each part of more than 20 km.
 """
 
+import argparse
 import os
 import sys
 
@@ -21,6 +24,9 @@ import drives  # noqa: E402
 
 
 def main():
+    parser = argparse.ArgumentParser(description=__doc__, formatter_class=argparse.RawDescriptionHelpFormatter)
+    parser.add_argument('folder', nargs='?', default=HERE, help='where the drives go; else beside this file')
+    folder = parser.parse_args().folder
     clean = drives.clean_drive()
     top = max(range(len(clean)), key=lambda k: clean[k].speed)
     recorded = {
@@ -30,7 +36,7 @@ def main():
         'short': clean[:1200],
     }
     for name, drive in recorded.items():
-        with open(os.path.join(HERE, name + '.drive'), 'wb') as file:
+        with open(os.path.join(folder, name + '.drive'), 'wb') as file:
             file.write(drives.block_of(drive))
 
 

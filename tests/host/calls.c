@@ -124,7 +124,7 @@ static void start_list(list *l, const char *name)
     l->number = 0;
     l->failed = 0;
     snprintf(run.place, sizeof run.place, "list %s, clear", l->name);
-    alarm(MOST_SECONDS);
+    must_end();
     random_bytes(bytes, l->lent.memory.room);
     lent_start(&l->lent, (run.passed + run.failed) % 2, bytes);
     given = lent_call(&l->lent, &clear);

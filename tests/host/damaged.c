@@ -220,7 +220,7 @@ static void run_area(lent *l, long k)
     static uint8_t bytes[ROOM];
     trip t;
     snprintf(run.place, sizeof run.place, "area %ld", k);
-    alarm(MOST_SECONDS);
+    must_end();
     random_bytes(bytes, l->memory.room);
     lent_start(l, k % 2, bytes);
     if (k % 4 > 1) {

@@ -9,12 +9,15 @@
 #include <stdio.h>
 #include <stdlib.h>
 #include <string.h>
+#include <sys/time.h>
 #include <unistd.h>
 
 #include "guard.h"
 #include "rde.h"
 
 enum { CLEAR, DECLARE, SAMPLE, CLOSE, READ, VERDICT, KINDS };
+
+_Static_assert(sizeof((const char *const[])RDE_RULE_NAMES) / sizeof(char *) == RDE_RULES, "a name for each rule");
 
 static const char *const kind_names[KINDS] = {"clear", "declare", "sample", "close", "read", "verdict"};
 
@@ -45,8 +48,15 @@ typedef struct {
 /* --- Figures and faults --- */
 
 #ifndef MOST_SECONDS
-#define MOST_SECONDS 60 /* more than any list of calls, area or tally takes */
+#define MOST_SECONDS 60 /* of processor time: more than any list of calls, area or tally takes */
 #endif
+
+/* What follows must end within MOST_SECONDS; other work on the machine does not count. */
+static inline void must_end(void)
+{
+    const struct itimerval most = {.it_value = {.tv_sec = MOST_SECONDS}};
+    setitimer(ITIMER_PROF, &most, NULL);
+}
 
 static struct {
     long passed, failed;
@@ -63,7 +73,7 @@ static inline int finish(void)
 static inline void on_signal(int number)
 {
     run.failed++;
-    printf("%s: %s\n", run.place, number == SIGALRM ? "does not end" : "fault");
+    printf("%s: %s\n", run.place, number == SIGPROF ? "does not end" : "fault");
     finish();
     fflush(stdout);
     _exit(1);
@@ -71,7 +81,7 @@ static inline void on_signal(int number)
 
 static inline void catch_faults(void)
 {
-    static const int numbers[] = {SIGSEGV, SIGBUS, SIGFPE, SIGILL, SIGABRT, SIGTRAP, SIGALRM};
+    static const int numbers[] = {SIGSEGV, SIGBUS, SIGFPE, SIGILL, SIGABRT, SIGTRAP, SIGPROF};
     for (size_t i = 0; i < sizeof numbers / sizeof *numbers; i++)
         signal(numbers[i], on_signal);
 }

@@ -74,7 +74,7 @@ int main(void)
         number = run.passed + run.failed;
         m.low = number % 2;
         snprintf(run.place, sizeof run.place, "tally or join %ld", number + 1);
-        alarm(MOST_SECONDS);
+        must_end();
         if (line_passes(m, line)) {
             run.passed++;
         } else {

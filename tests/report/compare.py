@@ -5,10 +5,13 @@ failed'.
 """
 
 import os
+import pty
 import random
 import subprocess
 import sys
+import tempfile
 import time
+import tty
 
 HERE = os.path.dirname(os.path.abspath(__file__))
 sys.path.insert(0, os.path.join(HERE, '..', 'reckoning'))
@@ -42,14 +45,55 @@ def in_pieces(data, lengths):
 
 
 def from_file(data):
-    """The input as a file."""
+    """The input as a file on standard input, and as a file that is named."""
     with open(os.path.join('target', 'report-input'), 'wb+') as file:
         file.write(data)
         file.flush()
         file.seek(0)
-        done = subprocess.run([PROGRAM], stdin=file, capture_output=True, timeout=60)
+        read = subprocess.run([PROGRAM], stdin=file, capture_output=True, timeout=60)
+        named = subprocess.run([PROGRAM, file.name], stdin=subprocess.DEVNULL, capture_output=True, timeout=60)
     os.unlink(file.name)
+    return [(done.stdout, done.stderr, done.returncode) for done in (read, named)]
+
+
+def in_shell(command):
+    """A shell command, in which $0 is the program, run in a folder of its own."""
+    with tempfile.TemporaryDirectory() as folder:
+        done = subprocess.run(['sh', '-c', command, PROGRAM], cwd=folder, stdin=subprocess.DEVNULL, capture_output=True, timeout=60,
+                              env={**os.environ, 'LC_ALL': 'C'})
     return done.stdout, done.stderr, done.returncode
+
+
+def broken_off(data):
+    """The input by a terminal that is hung up: a read fails once the data is read."""
+    ours, theirs = pty.openpty()
+    tty.setraw(theirs)
+    os.write(theirs, data)
+    os.close(theirs)
+    done = subprocess.run([PROGRAM], stdin=ours, capture_output=True, timeout=60, env={**os.environ, 'LC_ALL': 'C'})
+    os.close(ours)
+    return done.stdout, done.stderr, done.returncode
+
+
+def messages():
+    """Triples of a name, a shell command and the message on standard error, of runs that end with no report."""
+    missing = b': No such file or directory\n'
+    folder = b': Is a directory\n'
+    closed = b': Bad file descriptor\n'
+    usage = b'report: one file at most; report --help says more\n'
+    yield 'a missing file', '"$0" missing', b'report: cannot open missing' + missing
+    yield 'an empty name', '"$0" ""', b'report: cannot open ' + missing
+    yield 'an unknown option', '"$0" --quiet', b'report: cannot open --quiet' + missing
+    yield 'a name of 5,000 bytes', '"$0" %05000d' % 0, b"report: the file's name: File name too long\n"
+    yield 'a folder by name', 'mkdir d; "$0" d', b'report: cannot read d' + folder
+    yield 'a folder as standard input', '"$0" <.', b'report: cannot read standard input' + folder
+    yield 'standard input closed', '"$0" <&-', b'report: cannot read standard input' + closed
+    yield 'two files', 'touch a b; "$0" a b', usage
+    yield 'help and a file', 'touch a; "$0" --help a', usage
+    yield 'output to a full device', '"$0" >/dev/full', b'report: output not written: No space left on device\n'
+    yield 'help to a full device', '"$0" --help >/dev/full', b'report: output not written: No space left on device\n'
+    yield 'standard output closed', '"$0" >&-', b'report: output not written' + closed
+    yield 'standard output closed, a file', 'touch a; "$0" a >&-', b'report: output not written' + closed
 
 
 def plain(n):
@@ -110,7 +154,8 @@ def main():
 
     def compared(name, got, expected):
         nonlocal passed, failed
-        if got == (expected, b'', 0):
+        told = expected if isinstance(expected, tuple) else (expected, b'', 0)
+        if got == told:
             passed += 1
         else:
             failed += 1
@@ -121,9 +166,19 @@ def main():
     for name, data in inputs():
         expected = reference.report(data)
         compared(name, at_once(data), expected)
-        compared(name + ', from a file', from_file(data), expected)
+        for way, got in zip((', from a file', ', by name'), from_file(data)):
+            compared(name + way, got, expected)
     for name, data, lengths in arrivals():
         compared(name, in_pieces(data, lengths), reference.report(data))
+    for name, command, message in messages():
+        compared(name, in_shell(command), (b'', message, 0))
+    for n in (0, 1, 100):
+        message = b'report: cannot read standard input: Input/output error\n'
+        compared('a read error after %d samples' % n, broken_off(drives.block_of(plain(n))), (b'', message, 0))
+    out, err, status = in_shell('"$0" --help')
+    words = [b'usage: report [FILE]', b'samples N', b'broken M', b'verdict rule R', b'verdict exceeded', b'verdict clean', b'refused R at K',
+             b'exit status']
+    compared('help', ([word for word in words if word in out], err, status), (words, b'', 0))
     print('%d passed, %d failed' % (passed, failed))
     return failed != 0
 

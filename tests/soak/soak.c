@@ -8,7 +8,6 @@
 #include "../host/lent.h"
 
 #define SHOWN 10
-#define LIST_SECONDS 120
 
 static struct {
     long calls, other_lengths, refusals[KINDS][256], damaged, damaged_calls, damaged_refusals[256], full, sampled;
@@ -80,7 +79,7 @@ static void make(pair *s, int kind)
 static void start(pair *s, int low)
 {
     static uint8_t bytes[1 << 17];
-    alarm(LIST_SECONDS);
+    must_end();
     s->calls = 0;
     s->wrong[0] = 0;
     random_bytes(bytes, s->lent.memory.room);

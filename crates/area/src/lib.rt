@@ -13,6 +13,7 @@ ghost use Rattle.model.specs.Records.{maxSamples};
 ghost use Rattle.model.specs.Tallies.{tallyBytes, tallyFrom};
 ghost use Rattle.power.specs.Speeds.{Appended};
 ghost use Rattle.tally.specs.Sound.{Sound as SoundTally};
+ghost use Rattle.tally_bytes.specs.Low.{Low};
 ghost use Rattle.area.specs.Layout.{areaLen, headNumbers, samplesPart, markPart, windowsPart, formatPart, tallyPart, speedsPart, partsOf, with, formatNumber, sampleCount, closedMark, windowCount, formatMark, tallyIn};
 ghost use Rattle.area.specs.Stands.{Judges};
 ghost use Rattle.area.specs.Effects.{Changed, Numbered};
@@ -128,6 +129,14 @@ pub fn read_tally(area: &[u8]) -> Tally
     ensures { λ r. ⌜ r ≡ tallyFrom (tallyIn (partsOf (now (area .entry)))) ⌝ }
 {
     tally_bytes::read(area, TALLY)
+}
+
+// The tally that the next sample is added to: its numbers leave room for others on any bytes, and it is the area's where that is sound.
+pub fn low_tally(area: &[u8]) -> Tally
+    requires { ⌜ length (now area) ≡ areaLen ⌝ }
+    ensures { λ r. ⌜ Low (tallyIn (partsOf (now (area .entry)))) r ⌝ }
+{
+    tally_bytes::read_low(area, TALLY)
 }
 
 pub fn write_tally(area: &mut [u8], t: Tally)

@@ -4,11 +4,10 @@ use area::SLOTS;
 use reading::Reading;
 ghost use mathlib.Core.Path.{_≡_};
 ghost use mathlib.Core.List.{[]};
-ghost use Prim.Native.Nat.{_≤_, _<_};
+ghost use Prim.Native.Nat.{_<_};
 ghost use lib.ListN.{length};
 ghost use Rattle.model.specs.Records.{recordLength, maxWindows};
 ghost use Rattle.reading.specs.Read.{Reads};
-ghost use Rattle.reading.specs.Sound.{Sound as SoundWindows};
 ghost use Rattle.window.specs.Stand as window;
 ghost use Rattle.window.specs.Sweep.{Stepped, Added};
 ghost use Rattle.area.specs.Layout.{areaLen, slotsPart, partsOf, slotsIn};
@@ -44,14 +43,6 @@ pub fn read_window(area: &[u8], k: usize) -> Reading
     ensures { λ r. ⌜ Reads k (slotsIn (partsOf (now (area .entry)))) r ⌝ }
 {
     reading::read(&area[SLOTS..AREA_LEN], k)
-}
-
-// The first k slots hold what a list of calls can leave after n samples.
-pub fn sound_windows(area: &[u8], k: usize, n: u16) -> bool
-    requires { ⌜ (length (now area) ≡ areaLen) × (k ≤ maxWindows) ⌝ }
-    ensures { λ r. ⌜ SoundWindows k n (slotsIn (partsOf (now (area .entry)))) r ⌝ }
-{
-    reading::sound(&area[SLOTS..AREA_LEN], k, n)
 }
 
 // The moves counted since the last clear.

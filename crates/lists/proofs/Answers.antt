@@ -1,29 +1,16 @@
 -- What the code tests of a list, as its numbers come, is what the definitions say. Assumes nothing.
 use mathlib.Core.Path.{_≡_, refl}
-use mathlib.Core.Bool.{Bool, true, false, cond, _&&_}
+use mathlib.Core.Bool.{Bool, true, _&&_}
 use mathlib.Core.List.{List}
 use Prim.Native.Nat.{ℕ, _^_, _≤_, _<_}
 use native.Mathlib.Omega.{arith}
 use borrow.Author.Tests.{ltb-true, leb-true, lt-ltb, le-leb}
 use lib.Dec.{leb, ltb}
-use lib.IntN.{ℤ}
 use lib.ListN.{length}
-use lib.Signed.{leZ}
-use mir.Syntax.{w64}
-use mir.Val.{SFits, toZ, ofZ}
-use mir.ValLaws.{toZ-ofZ}
 use Rattle.model.specs.Records.{maxWindows}
-use Rattle.model.specs.Windows.{displaces}
 use Rattle.laws.specs.Tests.{both}
-use Rattle.slots.specs.Layout.{partLen, listCapacity, movesOf, firstOf, numberOf, valueIn}
-use Rattle.lists.specs.Steps.{displacesIn, Fitness}
-
-module _ (p : List ℕ) (k s : ℕ) where
-  pub displaced-is : (b largest : Bool) (new z : ℤ) → largest ≡ b → z ≡ valueIn p k s → SFits w64 new → SFits w64 z
-      → cond b (leZ (toZ w64 (ofZ w64 z)) (toZ w64 (ofZ w64 new))) (leZ (toZ w64 (ofZ w64 new)) (toZ w64 (ofZ w64 z))) ≡ displacesIn largest new p k s
-  unfolding displacesIn displaces
-  displaced-is true largest new z e v fn fz = rw (toZ-ofZ w64 z fz, toZ-ofZ w64 new fn, e, v) refl
-  displaced-is false largest new z e v fn fz = rw (toZ-ofZ w64 z fz, toZ-ofZ w64 new fn, e, v) refl
+use Rattle.slots.specs.Layout.{partLen, listCapacity, movesOf, firstOf, numberOf}
+use Rattle.lists.specs.Lists.{Fitness}
 
 -- the tests of the numbers that a list is kept by
 module _ (f n m : ℕ) where

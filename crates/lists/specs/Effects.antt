@@ -1,39 +1,20 @@
--- What a write to the move count and the clearing of the lists change, and what a write in a slot leaves.
+-- What a write to the move count and the clearing of the lists change.
 --     Recounted              the move count written
 --     Emptied, Cleared       slot k's list emptied; the lists of the first k slots
---     value-same             what a window reads where its record and the second's are the same; around-value follows
 -- Assumes nothing.
-use mathlib.Core.Path.{_≡_, refl, sym, ap, ap₂, _∙_}
+use mathlib.Core.Path.{_≡_, refl, _∙_}
 use mathlib.Core.List.{List}
-use Prim.Native.Nat.{ℕ, _+_, _*_, _^_, _≤_, _<_}
-use native.Mathlib.Nat.{zero-add}
+use Prim.Native.Nat.{ℕ, _+_, _*_, _^_, _<_}
 use native.Mathlib.Decide.{ℕ-discrete}
 use native.Mathlib.Omega.{arith}
 use lib.ListN.{length}
-use Rattle.model.specs.Numbers.{leAt, leBytes}
-use Rattle.model.specs.Records.{recordLength, maxWindows, sampleOf, channel}
-use Rattle.field.specs.Le.{putLe, le-same, le-under, le-part, part-le, put-le-length}
-use Rattle.slots.specs.Layout.{partLen, frontLen, frontOf, recordOf, movesPlace}
+use Rattle.model.specs.Numbers.{leBytes}
+use Rattle.model.specs.Records.{maxWindows}
+use Rattle.field.specs.Le.{putLe, le-same, le-under, part-le, put-le-length}
+use Rattle.slots.specs.Layout.{partLen, frontLen, frontOf, movesPlace}
 use Rattle.slots.specs.Layout.{movesOf, slotsPlace, slotLen, slotOf, slot-length, firstPlace, numberPlace, endsLen}
-use Rattle.slots.specs.Layout.{firstIn, numberIn, recordIn, valueIn}
-use Rattle.slots.specs.Effects.{Around, record-around, around-two, Beside, beside-then, record-same, Written}
-
--- what slot k's window reads of a second, where the window record and the second's record are the same
-module _ (p q : List ℕ) (k s : ℕ) (here : recordIn (slotOf q k) ≡ recordIn (slotOf p k)) (there : recordOf q s ≡ recordOf p s) where
-  field : (m b : ℕ) → b + m ≤ recordLength → leAt m (slotOf q k) b ≡ leAt m (slotOf p k) b
-  field m b h = sym (inner q) ∙ ap (λ (r : List ℕ). leAt m r b) here ∙ inner p
-    where
-      inner : (x : List ℕ) → leAt m (recordIn (slotOf x k)) b ≡ leAt m (slotOf x k) b
-      inner x = rw zero-add at (le-part (slotOf x k) 0 recordLength m b h)
-
-  pub value-same : valueIn q k s ≡ valueIn p k s
-  unfolding valueIn
-  value-same = ap₂ (λ (c : ℕ) (r : List ℕ). channel c (sampleOf r)) (field 1 1 (omega arith)) there
-
--- so does slot k's, where its window record is not written
-module _ (k : ℕ) (p q : List ℕ) (b : Beside k p q) (a n : ℕ) (r : Around a n (slotOf p k) (slotOf q k)) (h : recordLength ≤ a) (s : ℕ) where
-  pub around-value : valueIn q k s ≡ valueIn p k s
-  around-value = value-same p q k s (record-around a n (slotOf p k) (slotOf q k) r h) (record-same p q s (b .front))
+use Rattle.slots.specs.Layout.{firstIn, numberIn}
+use Rattle.slots.specs.Effects.{Around, around-two, Beside, beside-then, Written}
 
 -- the move count is now m, and nothing else is written
 pub record Recounted (m : ℕ) (p q : List ℕ) : Type 0 where

@@ -2,4 +2,3 @@
 pub mod Effects
 pub mod Circular
 pub mod Lists
-pub mod Steps

@@ -1,6 +1,7 @@
 -- The lists of held entries: a slot's list is a circular store of up to 600 seconds. What one append and one removal make of a slot's bytes.
 --     listIn, listOf        the list of a slot's bytes, of slot k
 --     Ready, Removable, Moved     before and after one move
+--     Fit, Fitness          before any number of moves; what the test of any bytes tells
 --     list-around           a write elsewhere in the slot leaves the list
 --     list-none             a number of 0 is the empty list
 -- Assumes nothing.
@@ -185,3 +186,15 @@ module _ (p p₁ p₂ q : List ℕ) (k o n : ℕ) (r : Ready p k) where
       let l = slot-length p k (r .size) (r .slot) in
       let s = pop-slot (slotOf p k) (slotOf p₁ k) (slotOf p₂ k) b l (r .first) d z (rw eo at (w₁ .here)) (rw en at (w₂ .here)) in
       moved _ _ _ _ _ w₁ w₂ t (s .0) (s .1) (s .2)
+
+-- what a caller shows before any number of removals and one append
+pub record Fit (p : List ℕ) (k : ℕ) : Type 0 where
+  pub ready : Ready p k
+  pub number : numberOf p k ≤ listCapacity
+  pub room : movesOf p + numberOf p k + 2 < 2 ^ 64
+
+-- what a test of any bytes tells: it passes a list that may be used as long as the moves are far from their end
+pub record Fitness (p : List ℕ) (k : ℕ) (r : Bool) : Type 0 where
+  pub sound : r ≡ true → Fit p k
+  pub far : r ≡ true → movesOf p ≤ 2 ^ 62
+  pub complete : Fit p k → movesOf p ≤ 2 ^ 62 → r ≡ true

@@ -19,8 +19,8 @@ use Rattle.model.specs.declared.VerdictAnswer.the-variants as verdict-told
 use Rattle.model.specs.Answers.{answerOf, verdictAnswerOf}
 use Rattle.model.specs.Trip.{empty, Call, clear, declare, sample, close, read, verdict, Answer, number, judged, refused, answers}
 use Rattle.area.specs.Layout.{areaLen}
-use Rattle.calls.specs.Step.{Step, Run, done, call, aside}
-use Rattle.calls.specs.Trace.{Claim, every-list}
+use Rattle.steps.specs.Step.{Step, Run, done, call, aside}
+use Rattle.steps.specs.Trace.{Claim, every-list}
 use Rattle.monitor.specs.declared.RdeAnswer.{RdeAnswer}
 use Rattle.monitor.specs.declared.RdeVerdictAnswer.{RdeVerdictAnswer}
 use Rattle.monitor.specs.Reply.{replyOf, judgedReplyOf, verdictReplyOf, Told, Judged, Steps}

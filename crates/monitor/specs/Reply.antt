@@ -12,7 +12,7 @@ use Rattle.model.specs.Answers.{answerOf, verdictAnswerOf, findingCode}
 use Rattle.model.specs.Blocks.{Written}
 use Rattle.model.specs.Numbers.{bit}
 use Rattle.model.specs.Trip as model
-use Rattle.calls.specs.Step.{Step}
+use Rattle.steps.specs.Step.{Step}
 use Rattle.tally_calls.specs.Calls.{Wrote}
 use Rattle.monitor.specs.declared.RdeAnswer.{RdeAnswer}
 use Rattle.monitor.specs.declared.RdeVerdictAnswer.{RdeVerdictAnswer}

@@ -88,7 +88,7 @@ pub extern "C" fn rde_clear(area: &mut [u8]) -> RdeAnswer
 pub extern "C" fn rde_declare(area: &mut [u8], record: &[u8]) -> RdeAnswer
     ensures { λ r. ⌜ Exported (model.declare (now («record» .entry))) (now (area .entry)) (plain r) (now (area .exit)) ⌝ }
 {
-    reply(calls::declare(area, record))
+    reply(record_calls::declare(area, record))
 }
 
 // Takes a sample.
@@ -96,7 +96,7 @@ pub extern "C" fn rde_declare(area: &mut [u8], record: &[u8]) -> RdeAnswer
 pub extern "C" fn rde_sample(area: &mut [u8], record: &[u8]) -> RdeAnswer
     ensures { λ r. ⌜ Exported (model.sample (now («record» .entry))) (now (area .entry)) (plain r) (now (area .exit)) ⌝ }
 {
-    reply(calls::sample(area, record))
+    reply(record_calls::sample(area, record))
 }
 
 // Closes the trip.

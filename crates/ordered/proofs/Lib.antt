@@ -1,3 +1,1 @@
-pub mod Search
-pub mod Shift
 pub mod Change

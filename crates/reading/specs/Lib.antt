@@ -1,3 +1,1 @@
--- What the windows read, and whether their part is sound.
 pub mod Read
-pub mod Sound

@@ -7,7 +7,7 @@ use mathlib.Core.Bool.{Bool, true, false, false≢true}
 use mathlib.Core.List.{List}
 use mathlib.Core.Option.{Option, none, some}
 use mathlib.Core.Path.{_≡_, refl, sym, ap, ap₂, _∙_}
-use Prim.Native.Nat.{ℕ, zero, suc, _+_, _*_, _^_, _≤_, _<_}
+use Prim.Native.Nat.{ℕ, zero, suc, _+_, _^_, _≤_, _<_}
 use native.Mathlib.Nat.{mul-le-mul}
 use native.Mathlib.Omega.{arith}
 use borrow.Author.Tests.{leb-true}
@@ -19,7 +19,7 @@ use Rattle.model.specs.Records.{recordLength, maxWindows, maxWidth, functions, 
 use Rattle.model.specs.Windows.{valueAt, held, keepsEntries, reading}
 use Rattle.model.specs.declared.Function.the-variants.{Count}
 use Rattle.model.specs.declared.Sample.{Sample}
-use Rattle.ordered.specs.Store.{valuesOf}
+use Rattle.cells.specs.Store.{valuesOf}
 use Rattle.laws.specs.Tests.{both}
 use Rattle.slide.specs.Held.{held-within, reading-first, reading-unheld}
 use Rattle.laws.specs.Lists.{all-at}
@@ -28,8 +28,7 @@ use Rattle.slide.specs.Percentile.{rank}
 use Rattle.slide.specs.Readings.{needsValues, reading-count, reading-sum, reading-average, reading-percentile, reading-none}
 use Rattle.slide.specs.Step.{length-values}
 use Rattle.slots.specs.Layout.{partLen, slotOf, movesOf, recordIn, codeIn, countIn, sumIn, numberOf, storeIn, valueIn}
-use Rattle.lists.specs.Lists.{listOf, number-length}
-use Rattle.lists.specs.Steps.{Fitness}
+use Rattle.lists.specs.Lists.{listOf, number-length, Fitness}
 use Rattle.window.specs.Slot.{layout-width, stands-fit, stands-function, extreme-function, value-read}
 use Rattle.window.specs.Stand.{Stands, SlotStands, windowOfList}
 use Rattle.reading.specs.declared.Reading.the-variants.{Value, NoneQualifies}
@@ -49,12 +48,9 @@ reads : (k : ℕ) (p : List ℕ) (r : Reading)
     → ((w : Window) (ss : List Sample) → SlotStands w ss (slotOf p k) → readingOf r ≡ reading w ss) → Reads k p r
 reads k p r f = record { on = λ ws ss s h. f (windowOfList ws k) ss (s .slots k h) }
 
--- the moves of a part that stands are few, and far from their end
-pub moves-few : (ws : List Window) (ss : List Sample) (p : List ℕ) → Stands ws ss p → movesOf p ≤ 2 * (length ws * length ss)
-moves-few ws ss p s = omega (arith, counted-moves (movesOf p) ws ss (s .moves), moves-bound ws ss)
-
-pub moves-small : (ws : List Window) (ss : List Sample) (p : List ℕ) → Stands ws ss p → movesOf p ≤ 2 ^ 62
-moves-small ws ss p s = omega (arith, moves-few ws ss p s, mul-le-mul (s .windows) (s .samples))
+-- the moves of a part that stands are far from their end
+moves-small : (ws : List Window) (ss : List Sample) (p : List ℕ) → Stands ws ss p → movesOf p ≤ 2 ^ 62
+moves-small ws ss p s = omega (arith, counted-moves (movesOf p) ws ss (s .moves), moves-bound ws ss, mul-le-mul (s .windows) (s .samples))
 
 -- of a code that is none of the functions', which `omega` counts in two steps
 above-2 : (m : ℕ) → (m ≡ 0 → ⊥) → (m ≡ 1 → ⊥) → (m ≡ 2 → ⊥) → 2 < m

@@ -4,7 +4,7 @@ use mathlib.Core.Path.{_≡_}
 use Prim.Native.Nat.{ℕ, _<_}
 use native.Mathlib.Omega.{arith}
 use borrow.Author.Tests.{ne-eqb}
-use Rattle.calls.specs.Step.{Step}
+use Rattle.steps.specs.Step.{Step}
 use Rattle.field.specs.Part.{put}
 use Rattle.model.specs.Trip.{Call, clear, declare, sample, close, read, verdict, Answer}
 use Rattle.script.specs.Script.{windowNumber, callOf}

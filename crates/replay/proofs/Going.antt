@@ -8,7 +8,7 @@ use lib.Dec.{leb}
 use lib.ListN.{length, take, drop, length-append, length-drop}
 use lib.Seq.{drop-drop, take-at, take-all}
 use borrow.Author.Tests.{le-leb, lt-leb}
-use Rattle.calls.specs.Step.{Step, Run, done, call, aside}
+use Rattle.steps.specs.Step.{Step, Run, done, call, aside}
 use Rattle.field.specs.Le.{bytes-length}
 use Rattle.field.specs.Part.{put, part, put-nil, put-append, put-length, part-same, part-after}
 use Rattle.model.specs.Numbers.{unsigned}

@@ -10,8 +10,8 @@ use lib.Seq.{take-all}
 use borrow.Author.Tests.{leb-true}
 use Rattle.area.specs.Layout.{areaLen}
 use Rattle.area.specs.Stands.{Stands}
-use Rattle.calls.specs.Step.{Step, Run}
-use Rattle.calls.specs.Trace.{Claim, runs, every-list, fresh-runs}
+use Rattle.steps.specs.Step.{Step, Run}
+use Rattle.steps.specs.Trace.{Claim, runs, every-list, fresh-runs}
 use Rattle.field.specs.Part.{put}
 use Rattle.model.specs.Trip.{Trip, empty, Call, clear, Answer, answers, after}
 use Rattle.replay.specs.declared.Progress.{Progress}

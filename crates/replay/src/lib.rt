@@ -32,11 +32,11 @@ fn call(area: &mut [u8], kind: u8, bytes: &[u8], out: &mut [u8], at: usize)
         return;
     }
     if kind == 1 {
-        answers::put_answer(out, at, calls::declare(area, bytes));
+        answers::put_answer(out, at, record_calls::declare(area, bytes));
         return;
     }
     if kind == 2 {
-        answers::put_answer(out, at, calls::sample(area, bytes));
+        answers::put_answer(out, at, record_calls::sample(area, bytes));
         return;
     }
     if kind == 3 {

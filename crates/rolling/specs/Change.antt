@@ -15,8 +15,8 @@ use lib.IntN.{ℤ, pos, negsuc, natAbs, _+ℤ_, _-ℤ_}
 use lib.ListN.{length}
 use Rattle.model.specs.Numbers.{bit, withinℤ, minus}
 use Rattle.model.specs.Records.{maxWindows, maxWidth, maxChannel}
-use Rattle.ordered.specs.Kept.{Inserted, Removed, kept-enters, kept-leaves}
-use Rattle.ordered.specs.Store.{Storable, valuesOf}
+use Rattle.ordered.specs.Kept.{Inserted, Removed, Replaced, kept-enters, kept-leaves, kept-replaced}
+use Rattle.cells.specs.Store.{Storable, valuesOf}
 use Rattle.laws.specs.Tests.{both, and-both}
 use Rattle.laws.specs.Lists.{one}
 use Rattle.slide.specs.Ordered.{ordered}
@@ -71,7 +71,7 @@ unfolding withinℤ
 within-sum (pos a) e = leb-true a mostSum e
 within-sum (negsuc a) e = omega (arith, leb-true a (mostSum - 1) (both _ _ e .0))
 
-pub sum-within : (z : ℤ) → natAbs z ≤ mostSum → withinℤ (minus mostSum) (pos mostSum) z ≡ true
+sum-within : (z : ℤ) → natAbs z ≤ mostSum → withinℤ (minus mostSum) (pos mostSum) z ≡ true
 unfolding withinℤ
 sum-within (pos a) h = le-leb a mostSum h
 sum-within (negsuc a) h = and-both (le-leb a (mostSum - 1) (omega arith)) refl
@@ -139,6 +139,11 @@ module _ (m : ℕ) (c : Change) (s : List ℕ) where
 
   pub one-put : (t : List ℕ) {z : ℤ} → z ≡ c .new → c .enters ≡ true → Inserted z m s t → PutIn m c s t
   one-put t n e f = record { values = λ zs h. rw (e, ← n) (kept-enters s t m _ zs h f) }
+
+  pub one-replaced : (t : List ℕ) {old new : ℤ} → old ≡ c .old → new ≡ c .new → c .leaves && c .enters ≡ true → Replaced old new m s t → Restocked m c s t
+  one-replaced t o n e f =
+      let b = both (c .leaves) (c .enters) e in
+      record { values = λ zs h. rw (b .0, b .1, ← n) (ap (valuesOf t) (omega arith) ∙ kept-replaced s t m _ zs (rw (b .0, ← o) at h) _ f) }
 
   pub restocked : (t u : List ℕ) (l : ℕ) → l ≡ m - bit (c .leaves) → bit (c .leaves) ≤ m → TakenOut m c s t → PutIn l c t u → Restocked m c s u
   restocked t u l e b o i = record {

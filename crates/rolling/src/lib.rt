@@ -15,7 +15,7 @@ ghost use Rattle.rolling.specs.Change.{Small, Roomy, Rolling, Rolls, mos
 // The most samples in a window's view, and a bound on the sum of their values, either way.
 pub const MOST_COUNT: u32 = MAX_WIDTH as u32;
 
-pub const MOST_SUM: i64 = (MOST_COUNT as i64) * (MAX_CHANNEL as i64);
+const MOST_SUM: i64 = (MOST_COUNT as i64) * (MAX_CHANNEL as i64);
 
 // The values that a cell of a store holds.
 const LEAST_CELL: i64 = -2_147_483_648;
@@ -79,7 +79,7 @@ pub fn roll(part: &mut [u8], k: usize, m: u32, sum: i64, c: Change)
 
 // The value that leaves goes from a store of m values in order; how many stay.
 fn take_out(store: &mut [u8], m: usize, c: Change) -> usize
-    requires { ⌜ (length (now store) ≡ storeLen) × (Roomy m c) ⌝ }
+    requires { ⌜ (length (now store) ≡ storeLen) × (Roomy m c) × (Small c) ⌝ }
     ensures { λ r. ⌜ (r ≡ m - bit (c .leaves)) × (TakenOut m c (now (store .entry)) (now (store .exit))) ⌝ }
 {
     if !c.leaves {
@@ -100,10 +100,15 @@ fn put_in(store: &mut [u8], m: usize, c: Change)
     ordered::insert(store, m, c.new);
 }
 
+// A store of m values in order, rolled on by a change.
 pub fn restock(store: &mut [u8], m: usize, c: Change)
-    requires { ⌜ (length (now store) ≡ storeLen) × (Roomy m c) ⌝ }
+    requires { ⌜ (length (now store) ≡ storeLen) × (Roomy m c) × (Small c) ⌝ }
     ensures { λ _. ⌜ Restocked m c (now (store .entry)) (now (store .exit)) ⌝ }
 {
+    if c.leaves & c.enters {
+        ordered::replace(store, m, c.old, c.new);
+        return;
+    }
     let left = take_out(store, m, c);
     put_in(store, left, c);
 }

@@ -1,24 +1,31 @@
--- Bytes copied one after the other: what is left to copy, put over what is there, gives what is to be given. Assumes nothing.
-use mathlib.Core.Path.{_≡_, refl}
+-- Bytes, each below 256, copied as two numbers. Assumes nothing.
+use mathlib.Core.Path.{_≡_, refl, sym, ap, _∙_}
 use mathlib.Core.List.{List}
-use Prim.Native.Nat.{ℕ, suc, _+_, _<_}
-use native.Mathlib.Nat.{add-zero}
-use native.Mathlib.Numerals.{add-one}
+use Prim.Native.Nat.{ℕ, zero, suc, _+_, _*_, _/_, _%_, _≤_, _<_}
 use native.Mathlib.Omega.{arith}
-use lib.ListN.{length, getD, set, drop}
-use lib.Seq.{drop-cons, drop-length}
-use Rattle.field.specs.Part.{put}
+use lib.ListN.{length, getD}
+use lib.Seq.{drop-cons, take-add, take-all}
+use Rattle.model.specs.Numbers.{leAt, leBytes}
+use Rattle.field.specs.Part.{part, part-length, put, put-append}
+use Rattle.field.specs.Le.{putLe, le-suc}
 
-pub copy-start : (p : List ℕ) (at : ℕ) (bytes : List ℕ) → put p (at + 0) (drop 0 bytes) ≡ put p at bytes
-copy-start p at bytes = rw add-zero refl
+module _ (xs : List ℕ) (bytes : (i : ℕ) → getD xs i 0 < 256) where
+  -- the number in n bytes has these bytes
+  bytes-le : (n a : ℕ) → a + n ≤ length xs → leBytes n (leAt n xs a) ≡ part xs a n
+  unfolding leBytes part
+  bytes-le zero a h = refl
+  bytes-le (suc n) a h =
+      let x = getD xs a 0 in
+      let y = leAt n xs (suc a) in
+      let l : (x + 256 * y) % 256 ≡ x = omega (arith, bytes a) in
+      let u : (x + 256 * y) / 256 ≡ y = omega (arith, bytes a) in
+      rw (le-suc n xs a (omega arith), drop-cons xs a 0 (omega arith), l, u, bytes-le n (suc a) (omega arith))
 
-pub copy-next : (p : List ℕ) (at i : ℕ) (bytes : List ℕ) → i < length bytes
-    → put (set p (at + i) (getD bytes i 0)) (at + (i + 1)) (drop (i + 1) bytes) ≡ put p (at + i) (drop i bytes)
-unfolding put
-copy-next p at i bytes h =
-    let e : at + (i + 1) ≡ suc (at + i) = omega arith in
-    rw (e, add-one i, drop-cons bytes i 0 h) refl
-
-pub copy-end : (p : List ℕ) (at i : ℕ) (bytes : List ℕ) → length bytes ≡ i → put p (at + i) (drop i bytes) ≡ p
-unfolding put
-copy-end p at i bytes h = rw (← h, drop-length bytes) refl
+  -- the numbers in the first n and in the other m, written one behind the other
+  pub copied : (n m at x y : ℕ) (p q : List ℕ) → length xs ≡ n + m → x ≡ leAt n xs 0 → y ≡ leAt m xs n → q ≡ putLe m (putLe n p at x) (at + n) y
+      → q ≡ put p at xs
+  unfolding putLe part
+  copied n m at x y p q h ex ey e =
+      let l : length (part xs 0 n) ≡ n = part-length xs 0 n (omega arith) in
+      rw (ex, ey, bytes-le n 0 (omega arith), bytes-le m n (omega arith)) at e
+      ∙ rw l at (put-append p at (part xs 0 n) (part xs n m)) ∙ ap (put p at) (sym (take-add n m xs) ∙ take-all (n + m) xs (omega arith))

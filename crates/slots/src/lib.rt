@@ -162,16 +162,18 @@ pub fn qualifies(part: &[u8], k: usize, second: u16) -> bool
     ((limit(part, k, LOW) as i64) <= v) & (v <= (limit(part, k, HIGH) as i64))
 }
 
+// A record is copied as two numbers of eight bytes.
+const WORD_LEN: usize = 8;
+
 // A record's bytes go to `at`.
 fn copy_record(part: &mut [u8], at: usize, bytes: &[u8])
     requires { ⌜ (length (now bytes) ≡ recordLength) × (at + recordLength ≤ length (now part)) ⌝ }
     ensures { λ _. ⌜ now (part .exit) ≡ put (now (part .entry)) at (now (bytes .entry)) ⌝ }
 {
-    let mut i: usize = 0;
-    while i < RECORD_LEN {
-        part[at + i] = bytes[i];
-        i += 1;
-    }
+    let front = field::get_u64(bytes, 0);
+    let back = field::get_u64(bytes, WORD_LEN);
+    field::put_u64(part, at, front);
+    field::put_u64(part, at + WORD_LEN, back);
 }
 
 // The ring's place of a second takes a record.

@@ -12,6 +12,7 @@ use Rattle.model.specs.Tallies.{tallyBytes, tallyFrom}
 use Rattle.model.specs.Trip.{Trip, number, refused}
 use Rattle.power.specs.Speeds.{Appended}
 use Rattle.tally.specs.Add.{added}
+use Rattle.tally_bytes.specs.Low.{Low}
 use Rattle.window.specs.Sweep.{Stepped}
 use Rattle.area.specs.Layout.{samplesPart, tallyPart, speedsPart, slotsPart, Parts, partsOf, with, closedMark, windowCount, formatMark, tallyIn, speedsIn, slotsIn}
 use Rattle.area.specs.Stands.{damaged, Stands}
@@ -42,15 +43,15 @@ taken {k} {n} {r} {v} {tl} {p} {p₁} {p₂} {p₃} {q} e w a f =
     }
 
 -- a sample is taken with the tally that was read
-pub take-done : {s s′ r : List ℕ} {n k : ℕ} {z : ℤ} {x₀ : Sample} {t u : Tally} → k ≡ windowCount (partsOf s) → x₀ ≡ sampleOf r → t ≡ tallyFrom (tallyIn (partsOf s)) → u ≡ added t x₀
+pub take-done : {s s′ r : List ℕ} {n k : ℕ} {z : ℤ} {x₀ : Sample} {t u : Tally} → k ≡ windowCount (partsOf s) → x₀ ≡ sampleOf r → Low (tallyIn (partsOf s)) t → u ≡ added t x₀
     → Taken k n r (x₀ .speed) u (partsOf s) (partsOf s′) → CountedMoves (partsOf s′) z → Accepts r n s (number z) s′
-take-done {s} {s′} {r} {n} {k} {z} {x₀} {t} {u} ek ex et eu x c = record {
-  taken = λ y e.
+take-done {s} {s′} {r} {n} {k} {z} {x₀} {t} {u} ek ex low eu x c = record {
+  taken = λ y e h.
       let f : z ≡ y = number-same z y e in
       let y₁ = subst (λ (m : ℕ). Taken m n r (x₀ .speed) u (partsOf s) (partsOf s′)) ek x in
-      let y₂ = subst (λ (v : Tally). Taken (windowCount (partsOf s)) n r (x₀ .speed) v (partsOf s) (partsOf s′)) (eu ∙ ap (λ (v : Tally). added v x₀) et) y₁ in
+      let y₂ = subst (λ (v : Tally). Taken (windowCount (partsOf s)) n r (x₀ .speed) v (partsOf s) (partsOf s′)) (eu ∙ ap (λ (v : Tally). added v x₀) (low .same h)) y₁ in
       let y₃ = subst (λ (w : Sample). Taken (windowCount (partsOf s)) n r (w .speed) (added (tallyFrom (tallyIn (partsOf s))) w) (partsOf s) (partsOf s′)) ex y₂ in
-      (y₃, λ h. sym f ∙ c h);
+      (y₃, λ l. sym f ∙ c l);
   unsound = λ j e. absurd (number-fine z j e);
   unjudged = λ v e. let w : _≡_ {A = ℕ} 0 1 = cc in absurd (omega arith);
 }
@@ -58,7 +59,7 @@ take-done {s} {s′} {r} {n} {k} {z} {x₀} {t} {u} ek ex et eu x c = record {
 -- or the area is damaged
 pub take-damaged : {s r : List ℕ} {n : ℕ} → ((t : Trip) → Stands s t → ⊥) → Accepts r n s (refused damaged) s
 take-damaged g = record {
-  taken = λ z e. absurd (number-fine z damaged (sym e));
+  taken = λ z e h. absurd (number-fine z damaged (sym e));
   unsound = λ j e. let f : damaged ≡ j = cc in (refl, (sym f, g));
   unjudged = λ v e. let w : _≡_ {A = ℕ} 0 1 = cc in absurd (omega arith);
 }

@@ -1,5 +1,5 @@
 -- The tally of an area that stands for a trip, and the areas that stand for no trip. Assumes nothing.
-use mathlib.Core.Bool.{Bool, false, true≢false}
+use mathlib.Core.Bool.{false, true≢false}
 use mathlib.Core.List.{List}
 use mathlib.Core.Path.{_≡_, sym, ap, _∙_}
 use Prim.Native.Nat.{ℕ, _<_}
@@ -10,33 +10,28 @@ use Rattle.model.specs.Trip.{Trip}
 use Rattle.record.specs.Ranges.{each-all}
 use Rattle.tally.specs.Sound.{Sound, facts-sound, tally-sound, sound-small}
 use Rattle.tally_bytes.specs.Bytes.{tally-back}
-use Rattle.reading.specs.Sound as Unsound
-use Rattle.area.specs.Layout.{Parts, partsOf, sampleCount, windowCount, tallyIn, slotsIn}
+use Rattle.area.specs.Layout.{Parts, partsOf, sampleCount, windowCount, tallyIn}
 use Rattle.area.specs.Stands.{Holds, Stands}
 
 module _ (p : Parts) (t : Trip) (h : Holds p t) where
-  tally-held-sound : Sound (tallyOf (t .samples))
-  tally-held-sound = tally-sound (t .samples) (each-all (t .samples) (h .slots .ranges)) (h .slots .samples)
+  samples-sound : Sound (tallyOf (t .samples))
+  samples-sound = tally-sound (t .samples) (each-all (t .samples) (h .slots .ranges)) (h .slots .samples)
 
   -- the tally in the area is the tally of the samples
   pub tally-held : tallyFrom (tallyIn p) ≡ tallyOf (t .samples)
-  tally-held = ap tallyFrom (h .tally) ∙ tally-back (tallyOf (t .samples)) (sound-small (tallyOf (t .samples)) tally-held-sound)
+  tally-held = ap tallyFrom (h .tally) ∙ tally-back (tallyOf (t .samples)) (sound-small (tallyOf (t .samples)) samples-sound)
 
--- An area whose tally is ill-formed, that has too many windows or samples, or whose slots are not sound, stands for no trip.
+  -- and is sound
+  pub sound-held : Sound (tallyFrom (tallyIn p))
+  sound-held = rw tally-held samples-sound
+
+-- An area whose tally is ill-formed, or that has too many windows or samples, stands for no trip.
 
 pub ill-formed : (s : List ℕ) → sound (tallyFrom (tallyIn (partsOf s))) ≡ false → (t : Trip) → Stands s t → ⊥
-ill-formed s e t st =
-    let h = st .holds in
-    true≢false (sym (rw (tally-held (partsOf s) t h) (facts-sound (tallyOf (t .samples)) (tally-held-sound (partsOf s) t h))) ∙ e)
+ill-formed s e t st = true≢false (sym (facts-sound (tallyFrom (tallyIn (partsOf s))) (sound-held (partsOf s) t (st .holds))) ∙ e)
 
 pub many-windows : (s : List ℕ) → maxWindows < windowCount (partsOf s) → (t : Trip) → Stands s t → ⊥
 many-windows s h t st = omega (arith, st .holds .windows, st .holds .slots .windows)
 
 pub many-samples : (s : List ℕ) → maxSamples < sampleCount (partsOf s) → (t : Trip) → Stands s t → ⊥
 many-samples s h t st = omega (arith, st .holds .samples, st .holds .slots .samples)
-
-pub unsound : {s : List ℕ} {k n : ℕ} {b : Bool} → k ≡ windowCount (partsOf s) → n ≡ sampleCount (partsOf s) → Unsound.Sound k n (slotsIn (partsOf s)) b → b ≡ false
-    → (t : Trip) → Stands s t → ⊥
-unsound ek en x e t st =
-    let f = x .on (t .windows) (t .samples) (st .holds .slots) (sym (ek ∙ st .holds .windows)) (sym (en ∙ st .holds .samples)) in
-    true≢false (sym f ∙ e)

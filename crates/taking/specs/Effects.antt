@@ -15,6 +15,7 @@ use Rattle.model.specs.Tallies.{tallyBytes, tallyFrom}
 use Rattle.model.specs.Trip.{Trip, Answer, number, judged, refused}
 use Rattle.power.specs.Speeds.{Appended}
 use Rattle.tally.specs.Add.{added}
+use Rattle.tally.specs.Sound.{Sound}
 use Rattle.window.specs.Sweep.{Stepped}
 use Rattle.area.specs.Layout.{areaLen, Parts, partsOf, sampleCount, closedMark, windowCount, formatMark, tallyIn, speedsIn, slotsIn}
 use Rattle.area.specs.Stands.{damaged, Stands}
@@ -39,11 +40,11 @@ pub record Taking (area r : List ℕ) (s : Sample) (n : ℕ) : Type 0 where
   pub sample : s ≡ sampleOf r
   pub range : inRange s ≡ true
 
--- what taking the sample of record r, second n, promises of the answer a: the sample is taken with the tally that the area holds, and the answer is the
--- moves; or the refusal of an area that stands for no trip, which changes nothing
+-- what taking the sample of record r, second n, promises of the answer a: where the tally in the area is sound, the sample is taken with it and the
+-- answer is the moves; or the refusal of an area that stands for no trip, which changes nothing
 pub record Accepts (r : List ℕ) (n : ℕ) (s : List ℕ) (a : Answer) (s′ : List ℕ) : Type 0 where
   pub taken :
-      (z : ℤ) → a ≡ number z
+      (z : ℤ) → a ≡ number z → Sound (tallyFrom (tallyIn (partsOf s)))
       → Taken (windowCount (partsOf s)) n r (sampleOf r .speed) (added (tallyFrom (tallyIn (partsOf s))) (sampleOf r)) (partsOf s) (partsOf s′) × CountedMoves (partsOf s′) z
   pub unsound : (k : ℕ) → a ≡ refused k → (s′ ≡ s) × ((k ≡ damaged) × ((t : Trip) → Stands s t → ⊥))
   pub unjudged : (v : Verdict) → a ≡ judged v → ⊥

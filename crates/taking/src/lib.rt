@@ -1,4 +1,4 @@
-// A sample whose turn it is goes into every part of the state area; an area that is found to be one that no list of calls leaves is refused.
+// A sample whose turn it is goes into every part of the state area. Safe on any bytes; more windows than any list of calls leaves are refused.
 // specs/Effects.antt says what is promised, specs/Damaged.antt has the laws of the areas that stand for no trip.
 use area::DAMAGED;
 use model::Answer;
@@ -31,13 +31,7 @@ pub fn take(area: &mut [u8], record: &[u8], s: Sample, n: u32) -> Answer
     if MAX_WINDOWS < k {
         return Answer::Refused(DAMAGED);
     }
-    if !area_windows::sound_windows(area, k as usize, n as u16) {
-        return Answer::Refused(DAMAGED);
-    }
-    let t = area::read_tally(area);
-    if !tally::is_sound(t) {
-        return Answer::Refused(DAMAGED);
-    }
+    let t = area::low_tally(area);
     store(area, record, s.speed, n, k, tally::add(t, s));
     Answer::Number(area_windows::moves(area))
 }

@@ -1,30 +1,22 @@
--- What it means to append a text to the one that a buffer begins with; the lines of the report of an accepted trip.
-use mathlib.Core.Path.{_≡_}
-use mathlib.Core.List.{List, _++_}
+-- What it means to append a text to the one that a buffer begins with.
+--     Appended             a text behind the first bytes of a buffer
+--     then, restated       one text behind another; the same text by another name
+-- Assumes nothing.
+use mathlib.Core.Path.{_≡_, ap, _∙_}
+use mathlib.Core.List.{List, _++_, append-assoc}
 use Prim.Native.Nat.{ℕ, _+_, _≤_}
+use native.Mathlib.Omega.{arith}
 use lib.ListN.{take}
-use Rattle.model.specs.declared.Finding.{Finding}
-use Rattle.model.specs.Report.{ascii, decimal, hexadecimal, findingText}
 
 -- behind the first `at` bytes of a buffer now stands `text`, which takes no more than `room` bytes and ends at `end`
 pub record Appended (before : List ℕ) (at room : ℕ) (text : List ℕ) (end : ℕ) (after : List ℕ) : Type 0 where
   pub bytes : take end after ≡ take at before ++ text
   pub within : end ≤ at + room
 
--- every text fits a buffer of this length
-abbrev pub textLen : ℕ
-textLen = 80
+-- one text behind another
+pub then : {a b c s t : List ℕ} {at m p n q : ℕ} → Appended a at m s p b → Appended b p n t q c → Appended a at (m + n) (s ++ t) q c
+then {a} {b} {c} {s} {t} {at} f g = record { bytes = g .bytes ∙ ap (λ (l : List ℕ). l ++ t) (f .bytes) ∙ append-assoc (take at a) s t; within = omega (arith, f .within, g .within) }
 
--- a buffer now begins with `text`, which ends at `end`
-pub record Written (text : List ℕ) (end : ℕ) (after : List ℕ) : Type 0 where
-  pub bytes : take end after ≡ text
-  pub within : end ≤ textLen
-
-unfoldable pub samplesLine : ℕ → List ℕ
-samplesLine n = ascii "samples " ++ decimal n ++ ascii "\n"
-
-unfoldable pub brokenLine : ℕ → List ℕ
-brokenLine mask = ascii "broken " ++ hexadecimal 8 mask ++ ascii "\n"
-
-unfoldable pub verdictLine : Finding → List ℕ
-verdictLine f = ascii "verdict " ++ findingText f ++ ascii "\n"
+-- the same text by another name, in more room
+pub restated : {a b s t : List ℕ} {at m n r : ℕ} → Appended a at m s r b → s ≡ t → m ≤ n → Appended a at n t r b
+restated {a} {at = at} f e h = record { bytes = f .bytes ∙ ap (λ (l : List ℕ). take at a ++ l) e; within = omega (arith, f .within) }

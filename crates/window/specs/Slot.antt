@@ -23,7 +23,7 @@ use Rattle.model.specs.Records.{maxWindows, maxWidth, maxChannel, sampleOf, inR
 use Rattle.model.specs.Windows.{sampleAt, qualifies, valueAt, values, held, keepsEntries, displaces}
 use Rattle.model.specs.declared.Function.the-variants.{Count, Percentile}
 use Rattle.model.specs.declared.Sample.{Sample}
-use Rattle.ordered.specs.Store.{Storable, valuesOf}
+use Rattle.cells.specs.Store.{Storable, valuesOf}
 use Rattle.laws.specs.Tests.{Each, all-each, both}
 use Rattle.record.specs.Ranges.{channel-small, EachInRange}
 use Rattle.slide.specs.Conditions.{qualifies-near}
@@ -39,8 +39,8 @@ use Rattle.slots.specs.Layout.{partLen, ringSeconds, slotsPlace, slotLen, slotO
 use Rattle.slots.specs.Layout.{numberPlace, storePlace, storeLen, listLen, listCapacity, recordOf, movesOf, codeIn, widthIn, countIn, sumIn}
 use Rattle.slots.specs.Layout.{storeIn, recordIn, windowIn, firstOf, numberOf}
 use Rattle.slots.specs.Layout.{ringSamples, ring-sample, valueIn, qualifiesIn, window-function, window-width, value-window}
-use Rattle.lists.specs.Lists.{listOf, number-length, list-none, list-around}
-use Rattle.lists.specs.Steps.{extreme, displacesIn, Fit, ListStepped, Fitness}
+use Rattle.lists.specs.Lists.{listOf, number-length, list-none, list-around, Fit, Fitness}
+use Rattle.list_steps.specs.Steps.{extreme, displacesIn, ListStepped}
 use Rattle.rolling.specs.Change.{Small, Roomy, Rollable, Rolling, countAfter, sumAfter, Restocked}
 use Rattle.rolling.specs.declared.Change.{Change}
 use Rattle.window.specs.Stand.{SlotStands}
@@ -322,6 +322,7 @@ pub record Fillable (p : List ℕ) (k m : ℕ) (c : Change) : Type 0 where
   pub slot : k < maxWindows
   pub count : m ≡ countIn (slotOf p k)
   pub room : Roomy m c
+  pub small : Small c
 
 -- values in order
 pub record Refilled (k : ℕ) (c : Change) (p q : List ℕ) : Type 0 where

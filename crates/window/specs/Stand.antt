@@ -9,7 +9,7 @@ use Rattle.model.specs.Records.{sampleOf, windowOf, layoutKept, maxWindows, max
 use Rattle.model.specs.Windows.{sampleAt, values, held, entries}
 use Rattle.model.specs.declared.Sample.{Sample}
 use Rattle.model.specs.declared.Function.the-variants.{Percentile}
-use Rattle.ordered.specs.Store.{valuesOf}
+use Rattle.cells.specs.Store.{valuesOf}
 use Rattle.record.specs.Ranges.{EachInRange}
 use Rattle.slide.specs.Ordered.{ordered}
 use Rattle.slots.specs.Layout.{partLen, ringSeconds, listCapacity, recordOf, movesOf, slotOf, recordIn, countIn, sumIn, firstIn, numberIn, storeIn}

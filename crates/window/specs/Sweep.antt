@@ -19,7 +19,7 @@ use Rattle.model.specs.Numbers.{leAt, sumℤ}
 use Rattle.model.specs.Records.{recordLength, maxSamples, maxWindows, sampleOf, inRange, windowOf, layoutKept, Window}
 use Rattle.model.specs.Windows.{sampleAt, moves}
 use Rattle.model.specs.declared.Sample.{Sample}
-use Rattle.ordered.specs.Store.{valuesOf}
+use Rattle.cells.specs.Store.{valuesOf}
 use Rattle.slide.specs.Held.{held-start}
 use Rattle.laws.specs.Lists.{All, midway, total-bound}
 use Rattle.record.specs.Ranges.{EachInRange}

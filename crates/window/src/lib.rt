@@ -14,9 +14,8 @@ ghost use Rattle.model.specs.Numbers.{bit};
 ghost use Rattle.model.specs.Records.{recordLength, maxWindows};
 ghost use Rattle.slide.specs.Undisplaced.{aged};
 ghost use Rattle.slots.specs.Layout.{partLen, slotOf, codeIn, countIn, listCapacity};
-ghost use Rattle.lists.specs.Lists.{listOf};
-ghost use Rattle.lists.specs.Steps.{Fit};
-ghost use Rattle.rolling.specs.Change.{Roomy};
+ghost use Rattle.lists.specs.Lists.{listOf, Fit};
+ghost use Rattle.rolling.specs.Change.{Small, Roomy};
 ghost use Rattle.window.specs.Stand.{Stands};
 ghost use Rattle.window.specs.Slot.{Changes, Fillable, Kept, Refilled, Turned};
 ghost use Rattle.window.specs.Sweep.{Sweeping, Steppable, Stepped, Added};
@@ -82,12 +81,12 @@ fn keep_list(part: &mut [u8], k: usize, n: u16, largest: bool, c: Change)
     if !has_room(part, k, w, n) {
         return;
     }
-    lists::step_list(part, k, largest, w, n, c.new, c.enters);
+    list_steps::step_list(part, k, largest, w, n, c.new, c.enters);
 }
 
 // What slot k's function keeps besides count and sum.
 fn keep(part: &mut [u8], k: usize, n: u16, m: u32, c: Change)
-    requires { ⌜ (Fit (now part) k) × (m ≡ countIn (slotOf (now part) k)) × (Roomy m c) ⌝ }
+    requires { ⌜ (Fit (now part) k) × (m ≡ countIn (slotOf (now part) k)) × (Roomy m c) × (Small c) ⌝ }
     ensures { λ _. ⌜ Kept k n c (now (part .entry)) (now (part .exit)) ⌝ }
 {
     match slots::code(part, k) {

@@ -1,8 +1,8 @@
 -- `calls::clear` meets its contract. Assumes nothing.
 use borrow.Author.Needs.{needs}
 use Rattle.model.specs.Trip.{clear}
-use Rattle.calls.proofs.Laws.{wrong-step}
-use Rattle.calls.proofs.Accepted.{clear-done}
+use Rattle.steps.specs.Laws.{wrong-step}
+use Rattle.steps.specs.Accepted.{clear-done}
 use Rattle.calls.proofs.clear.Statement.{statement}
 use Rattle.calls.proofs.clear.Tie as tie
 

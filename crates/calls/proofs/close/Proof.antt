@@ -2,9 +2,9 @@
 use mathlib.Core.Path.{sym, _∙_}
 use borrow.Author.Needs.{needs}
 use Rattle.model.specs.Trip.{close}
-use Rattle.calls.proofs.Laws.{wrong-step}
-use Rattle.calls.proofs.Refusals.{close-unmarked, close-closed}
-use Rattle.calls.proofs.Accepted.{close-done}
+use Rattle.steps.specs.Laws.{wrong-step}
+use Rattle.steps.specs.Refusals.{close-unmarked, close-closed}
+use Rattle.steps.specs.Accepted.{close-done}
 use Rattle.calls.proofs.close.Statement.{statement}
 use Rattle.calls.proofs.close.Tie as tie
 

@@ -7,9 +7,9 @@ use Rattle.model.specs.Tallies.{sound}
 use Rattle.model.specs.Trip.{verdict}
 use Rattle.tally.specs.Sound.{sound-facts}
 use Rattle.taking.specs.Damaged.{ill-formed, many-samples}
-use Rattle.calls.proofs.Laws.{wrong-step}
-use Rattle.calls.proofs.Refusals.{verdict-unmarked, verdict-damaged}
-use Rattle.calls.proofs.Accepted.{verdict-done, verdict-held}
+use Rattle.steps.specs.Laws.{wrong-step}
+use Rattle.steps.specs.Refusals.{verdict-unmarked, verdict-damaged}
+use Rattle.steps.specs.Accepted.{verdict-done, verdict-held}
 use Rattle.calls.proofs.verdict.Statement.{statement}
 use Rattle.calls.proofs.verdict.Tie as tie
 

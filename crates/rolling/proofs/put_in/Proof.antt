@@ -7,7 +7,7 @@ use borrow.Author.Tests.{not-true, not-false}
 use mir.Syntax.{w64}
 use mir.ValLaws.{toZ-ofZ}
 use Rattle.model.specs.Numbers.{bit}
-use Rattle.ordered.specs.Store.{Storable}
+use Rattle.cells.specs.Store.{Storable}
 use Rattle.rolling.proofs.put_in.Statement.{statement}
 use Rattle.rolling.specs.Change.{none-put, one-put}
 use Rattle.rolling.proofs.put_in.Tie as tie

@@ -1,13 +1,10 @@
 -- `taking::take` meets its contract. Assumes nothing.
-use mathlib.Core.Path.{sym, ap, _∙_}
+use mathlib.Core.Path.{_∙_}
 use mir.Syntax.{w64}
 use mir.ValLaws.{toZ-ofZ}
 use native.Mathlib.Omega.{arith}
 use borrow.Author.Needs.{needs}
-use borrow.Author.Tests.{not-true, not-false}
-use Rattle.model.specs.Tallies.{sound}
-use Rattle.tally.specs.Sound.{sound-facts, sound-small}
-use Rattle.taking.specs.Damaged.{ill-formed, many-windows, unsound}
+use Rattle.taking.specs.Damaged.{many-windows}
 use Rattle.taking.proofs.Accepted.{take-done, take-damaged}
 use Rattle.taking.proofs.take.Statement.{statement}
 use Rattle.taking.proofs.take.Tie as tie
@@ -15,49 +12,36 @@ use Rattle.taking.proofs.take.Tie as tie
 returns : tie.Need-returns
 returns c = take-damaged (many-windows _ (omega (arith, c .before .windows .ensures)))
 
-returns-2 : tie.Need-returns-2
-returns-2 c =
-    let windows = c .before .before .before .before in
-    let start = windows .before .before .before .before in
-    take-damaged (unsound (windows .windows .ensures) (start .pre .turn) (c .before .sound-windows .ensures) (not-true _ (c .if2 .taken)))
-
-returns-3 : tie.Need-returns-3
-returns-3 c =
-    let sound-test = c .before in
-    take-damaged
-    (ill-formed _ (ap sound (sym (sound-test .before .read-tally .ensures)) ∙ sym (sound-test .is-sound .ensures) ∙ not-true _ (c .if3 .taken)))
-
 add-requires : tie.Need-add-requires
 add-requires c κs =
-    let test = c .before in
-    let start = test .before .before .before .before .before .before .before .before .before .before .before .before in
-    (sound-small _ (sound-facts _ (sym (test .before .is-sound .ensures) ∙ not-false _ (test .if3 .left))), start .pre .range)
+    let tally = c .before in
+    let start = tally .before .before .before .before .before .before .before in
+    (tally .low-tally .ensures .small, start .pre .range)
 
 store-requires : tie.Need-store-requires
 store-requires c κs =
-    let few = c .before .before .before .before .before .before .before .before .before in
+    let few = c .before .before .before .before in
     let start = few .before .before .before .before .before in
     record { size = start .pre .size; windows = few .if1 .left; second = start .pre .room; bytes = start .pre .bytes }
 
 moves-requires : tie.Need-moves-requires
 moves-requires c κs =
     let stored = c .before .before .before in
-    let start = stored .before .before .before .before .before .before .before .before .before .before .before .before .before .before .before in
+    let start = stored .before .before .before .before .before .before .before .before .before .before in
     stored .store .kept .0 ∙ start .pre .size
 
-returns-4 : tie.Need-returns-4
-returns-4 c =
+returns-2 : tie.Need-returns-2
+returns-2 c =
     let stored = c .before .before .before .before in
-    let tally = stored .before .before .before .before .before in
-    let windows = tally .before .before .before .before .before .before in
+    let tally = stored .before .before .before in
+    let windows = tally .before .before .before in
     let start = windows .before .before .before .before in
     rw (toZ-ofZ w64 (c .moves .result) (record { sfits = c .moves .ok }))
-    (take-done (windows .windows .ensures) (start .pre .sample) (tally .read-tally .ensures) (stored .before .add .ensures) (stored .store .ensures)
+    (take-done (windows .windows .ensures) (start .pre .sample) (tally .low-tally .ensures) (stored .before .add .ensures) (stored .store .ensures)
     (c .moves .ensures))
 
 pub take-spec : {M : Type 1} → statement M
 take-spec =
     tie.close
-    (tie.spec (λ c κs. search needs) (λ c. search needs) returns (λ c. search needs) (λ c. search needs) (λ c κs. search needs) (λ c. search needs)
-    returns-2 (λ c κs. search needs) (λ c κs. search needs) (λ c. search needs) returns-3 add-requires store-requires moves-requires
-    (λ c. search needs) returns-4)
+    (tie.spec (λ c κs. search needs) (λ c. search needs) returns (λ c κs. search needs) add-requires store-requires moves-requires
+    (λ c. search needs) returns-2)

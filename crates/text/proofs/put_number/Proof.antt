@@ -1,6 +1,6 @@
 -- `put_number` meets its contract, by its parts. Assumes nothing.
 use borrow.Author.Needs.{needs}
-use Rattle.text.proofs.Laws.{then}
+use Rattle.text.specs.Append.{then}
 use Rattle.text.proofs.put_number.Statement.{statement}
 use Rattle.text.proofs.put_number.Tie as tie
 

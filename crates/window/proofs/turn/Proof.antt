@@ -21,10 +21,12 @@ returns-2 c =
 keep-requires : tie.Need-keep-requires
 keep-requires c κs =
     let counted = c .before .before .before .before .before in
-    let fitting = counted .before .before .before .before in (
+    let change = counted .before .before in
+    let fitting = change .before .before in (
       fitting .before .fit .ensures .sound (not-false _ (fitting .if1 .left)),
       counted .count .ensures,
       c .before .before .rollable .ensures .sound (not-false _ (c .before .if2 .left)) .room,
+      change .read-change .ensures .small,
     )
 
 roll-requires : tie.Need-roll-requires

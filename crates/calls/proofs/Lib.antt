@@ -1,3 +1,0 @@
-pub mod Laws
-pub mod Refusals
-pub mod Accepted

@@ -1,0 +1,2 @@
+-- One sample more for a slot's list of held entries.
+pub mod Steps

@@ -1,0 +1,2 @@
+-- What the contracts of `report`'s reading cite.
+pub mod Input

@@ -1,0 +1,5 @@
+pub mod Step
+pub mod Trace
+pub mod Laws
+pub mod Refusals
+pub mod Accepted

@@ -1,15 +1,15 @@
 -- `ordered::replace` meets its contract: the hole at the place of the old value goes to that of the new one. Assumes nothing.
 use native.Mathlib.Omega.{arith}
-use mathlib.Core.Path.{_≡_, ap}
+use mathlib.Core.Path.{_≡_, ap, subst}
 use mir.Syntax.{w64}
 use mir.Val.{ofZ, toZ}
 use mir.ValLaws.{toZ-ofZ}
 use borrow.Author.Needs.{needs}
 use borrow.Author.Tests.{lt-ltb, le-ltb}
 use denote.Ref.{now}
+use lib.IntN.{ℤ}
 use Rattle.model.specs.Numbers.{bit}
-use Rattle.search.specs.Place.{Placed}
-use Rattle.search.specs.Place.{sought}
+use Rattle.search.specs.Place.{Placed, sought}
 use Rattle.ordered.proofs.Change.{present, replaced}
 use Rattle.ordered.proofs.replace.Statement.{statement}
 use Rattle.ordered.proofs.replace.Tie as tie
@@ -31,7 +31,7 @@ module _ (c : tie.After-place2) where
   from = rw (toZ-ofZ w64 (start .args .old) (start .fits .old)) at (c .before .before .place .ensures)
 
   to : Placed (start .args .new) (now (start .args .store)) (start .args .m) (c .place2 .result)
-  to = rw new-is at (c .place2 .ensures)
+  to = subst (λ (z : ℤ). Placed z (now (start .args .store)) (start .args .m) (c .place2 .result)) new-is (c .place2 .ensures)
 
 returns : tie.Need-returns
 returns c =

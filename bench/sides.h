@@ -98,7 +98,8 @@ static inline int target_speed(int done)
     return done < 78 ? 650 + rand() % 230 : 1000 + rand() % 280;
 }
 
-/* A drive whose speed goes towards a target by at most 12 tenths of km/h a second, with some unrest. */
+/* A drive whose speed goes towards a target by at most 12 tenths of km/h a second, with some unrest, and whose road falls by a metre
+ * a minute: its first half hour keeps rule 21, the whole breaks it. */
 static inline void make_drive(void)
 {
     int speed = 0, target = 0, altitude = 120;
@@ -112,7 +113,7 @@ static inline void make_drive(void)
         speed += change;
         if (target > 0 && speed > 6)
             speed += rand() % 7 - 3;
-        altitude += rand() % 3 - 1;
+        altitude += rand() % 3 - 1 - (i % 60 == 59);
         put_u16(p, (uint32_t)i);
         put_u16(p + 2, (uint32_t)speed);
         put_u16(p + 4, (uint32_t)altitude);

@@ -25,7 +25,7 @@
  *     rde_sample    304
  *     rde_close     8
  *     rde_read      8
- *     rde_verdict   472
+ *     rde_verdict   488
  *     rde_tally     144
  *     rde_join      440
  */
@@ -40,9 +40,11 @@ extern "C" {
 #endif
 
 /* The version of this interface. It becomes one more when a function, an answer, a record, a tally or the area's format changes: then
- * programs are compiled again, and areas and tallies that were saved before are used no more. An area whose format has changed has
- * another mark, and is refused with RDE_DAMAGED. */
-#define RDE_VERSION 1
+ * programs are compiled again, and areas, records and tallies whose layout has changed are used no more. An area whose format has
+ * changed has another mark, and is refused with RDE_DAMAGED.
+ *     2  rule 21: bit 21 of broken, 21 as a word, RDE_RULES 22; rde_verdict takes 488 bytes of stack, 472 before. The area has another
+ *        format: end and judge a trip before the change, since its area is refused then. RDE_AREA_LEN, records and tallies stay. */
+#define RDE_VERSION 2
 
 /* What a call answers: refusal 0 means accepted, with the value; any other refusal has value 0 and has changed no byte. */
 typedef struct {
@@ -53,7 +55,7 @@ typedef struct {
 /* What rde_verdict answers; at a refusal the other three are 0. */
 typedef struct {
     uint32_t refusal;
-    uint32_t broken;   /* bit k: rule k, 0 to 20, is broken; the other bits are 0 */
+    uint32_t broken;   /* bit k: rule k, 0 to 21, is broken; the other bits are 0 */
     uint32_t exceeded; /* 1: the NOx limit is exceeded; 0: it is not */
     uint32_t word;     /* the finding: the lowest broken rule; else RDE_EXCEEDED; else RDE_CLEAN */
 } rde_verdict_answer;
@@ -74,7 +76,8 @@ enum {
     RDE_LENGTH = 11,        /* area or output of the wrong length */
     RDE_TALLY = 12,         /* an ill-formed tally */
     RDE_JOINED = 13,        /* joined tallies over 7201 samples */
-    RDE_DAMAGED = 255       /* the area was never cleared, or holds what no list of calls leaves; only rde_clear helps */
+    RDE_DAMAGED = 255       /* the area was never cleared, was saved by a version with another format, or holds what no list of calls
+                             * leaves; only rde_clear helps */
 };
 
 /* What to do at each refusal:
@@ -91,7 +94,7 @@ enum {
  *     RDE_LENGTH          a fault of the calling program: lend an area of RDE_AREA_LEN bytes, an output of RDE_TALLY_LEN
  *     RDE_TALLY           a tally that has not RDE_TALLY_LEN bytes, or was damaged: tally its block again
  *     RDE_JOINED          the two are more than a trip: keep them apart
- *     RDE_DAMAGED         rde_clear; if the area was cleared by this version before, its trip is lost: look for what wrote to it */
+ *     RDE_DAMAGED         rde_clear; a trip that the area held is lost. If this version cleared the area before, look for what wrote to it */
 
 /* The findings of a verdict beside the rules' numbers. */
 enum {
@@ -162,10 +165,12 @@ enum {
  *     15 to 17 fewer than 150 accelerating samples (urban, rural, motorway)
  *     18 to 20 (urban, rural, motorway; kept if no sample is accelerating) where S <= 746 x N,
  *              10000 x P95 x N > 2592 x (136 x S + 144400 x N); else 100000 x P95 x N > 2592 x (742 x S + 1896600 x N)
+ *     21       the altitudes of the first and the last sample differ by 101 m or more, up or down; kept if there is no sample. In a
+ *              verdict before the end the last sample is the latest one taken: the rule may be broken on the way and kept at the end
  * Exceeded, told also where rules are broken: D > 0 and 1586 x (sum of channel 6) > 80000 x D, which is above 80 mg/km. */
 
 /* The rules' names in words: const char *const names[RDE_RULES] = RDE_RULE_NAMES; */
-#define RDE_RULES 21
+#define RDE_RULES 22
 #define RDE_RULE_NAMES \
     { \
         "shorter than 90 minutes",                                 /*  0 */ \
@@ -188,7 +193,8 @@ enum {
         "too little acceleration, motorway",                       /* 17 */ \
         "driven too hard, urban",                                  /* 18 */ \
         "driven too hard, rural",                                  /* 19 */ \
-        "driven too hard, motorway"                                /* 20 */ \
+        "driven too hard, motorway",                               /* 20 */ \
+        "start and end more than 100 m apart in altitude"          /* 21 */ \
     }
 
 /* The length that every area must have. */

@@ -116,12 +116,15 @@ static inline trip trip_start(uint32_t limit, uint32_t faults)
     return t;
 }
 
-/* Climbs about a middle speed, again and again: V x A is about the limits of rules 18 to 20. */
+/* Climbs about a middle speed, again and again: V x A is about the limits of rules 18 to 20, and altitudes are on both sides of the
+ * limit of rule 21. */
 static inline values climb_values(const trip *t)
 {
+    static const int32_t altitudes[] = {-60, 40, 41};
     values v = t->before;
     int32_t low = t->middle - 2 * t->rise, high = t->middle + t->rise;
     v.speed = v.speed >= low && v.speed <= high ? v.speed + t->rise + between(-1, 1) : low + between(0, t->rise);
+    v.altitude = altitudes[below(3)];
     v.flow = between(0, 3000);
     v.nox = between(0, 60);
     return v;

@@ -1,11 +1,13 @@
-/* Areas that no list of calls leaves: never cleared (random bytes, all 0, all 255); what a list of calls left with 1 to 40 bytes
- * changed, with a stretch of random bytes, or joined from two such areas. On each, every call is made with good and bad records:
- * each ends without a fault, a refusal changes no byte, 11 and 1 are given exactly when due (lent.h); one that was never cleared is
- * refused with 255. Then clear makes the area fresh: a short list answers as document 01 says.
+/* Areas that no list of calls leaves: never cleared (random bytes, all 0, all 255); what a list of calls left with the mark of the
+ * format before, with 1 to 40 bytes changed, with a stretch of random bytes, or joined from two such areas. On each, every call is
+ * made with good and bad records: each ends without a fault, a refusal changes no byte, 11 and 1 are given exactly when due (lent.h);
+ * one that was never cleared, or has the mark of the format before, is refused with 255. Then clear makes the area fresh: a short list
+ * answers as document 01 says.
  *     damaged COUNT [SEED]
  * An area passes or fails as a whole. Prints the refusals by number; the last line is 'N passed, M failed'. */
 #include "chance.h"
 #include "lent.h"
+#include "mark.h"
 
 #define SHOWN 10
 #define ROUNDS 4         /* each kind of call is made so often on an area */
@@ -85,19 +87,6 @@ static void change_joined(lent *l, trip *t)
     memcpy(l->area, first, from);
 }
 
-/* What clear writes that is not 0, the mark of the area's format: found by clearing an area of zeros and one of ones. */
-static void put_mark(uint8_t *area)
-{
-    static uint8_t zeros[RDE_AREA_LEN], ones[RDE_AREA_LEN];
-    memset(zeros, 0, sizeof zeros);
-    memset(ones, 255, sizeof ones);
-    rde_clear(zeros, sizeof zeros);
-    rde_clear(ones, sizeof ones);
-    for (uint32_t i = 0; i < RDE_AREA_LEN; i++)
-        if (zeros[i] == ones[i] && zeros[i] != 0)
-            area[i] = zeros[i];
-}
-
 /* Puts damage into the area; gives where a list would go on. */
 static trip damage(lent *l)
 {
@@ -107,7 +96,7 @@ static trip damage(lent *l)
         t = trip_start(40, 4);
         random_bytes(l->area, RDE_AREA_LEN);
         if (once_in(2))
-            put_mark(l->area);
+            put_mark(rde_clear, l->area, 0);
     } else {
         t = make_real(l);
         if (kind == 1)
@@ -154,8 +143,8 @@ static void expect(lent *l, const call *c, answer stated)
         lent_wrong(l, "a call does not answer as stated");
 }
 
-/* Every call but clear on an area that was never cleared: 255 alone, or 1 for a record of another length. */
-static void never_cleared(lent *l)
+/* Every call but clear on an area without the mark: 255 alone, or 1 for a record of another length. */
+static void unmarked(lent *l)
 {
     for (int kind = CLEAR + 1; kind < KINDS; kind++) {
         call c = {.kind = kind, .record_len = RDE_RECORD_LEN};
@@ -227,7 +216,11 @@ static void run_area(lent *l, long k)
         memset(l->area, k % 4 == 2 ? 0 : 255, RDE_AREA_LEN);
         lent_settle(l);
     }
-    never_cleared(l);
+    unmarked(l);
+    make_real(l);
+    put_mark(rde_clear, l->area, 1);
+    lent_settle(l);
+    unmarked(l);
     t = damage(l);
     make_calls(l, t);
     short_list(l);

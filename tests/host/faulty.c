@@ -4,6 +4,7 @@
 #include <stdlib.h>
 #include <string.h>
 
+#include "mark.h"
 #include "rde.h"
 
 enum {
@@ -38,11 +39,24 @@ enum {
     DAMAGED_LENGTH,        /* a sample to a damaged area is refused with 11 */
     DAMAGED_RECORD,        /* a declare, close or read on a damaged area is refused with 1 */
     UNCLEARED_CLEAN,       /* the verdict on a damaged area is clean */
+    FORMAT_BEFORE,         /* close takes an area of the format before */
     VERDICT_EXCEEDED,      /* the exceeded mark is never set */
     VERDICT_RULE,          /* rule 20's bit is never set */
     VERDICT_OTHER_BITS,    /* a bit of no rule is set */
     VERDICT_WORD,          /* the word is the next rule's number */
     VERDICT_CLEAN,         /* the word for exceeded is that for clean */
+    HEIGHT_EARLY,          /* 100 m break rule 21 */
+    HEIGHT_LATE,           /* 101 m keep it */
+    HEIGHT_UP,             /* a finish above the start keeps it */
+    HEIGHT_DOWN,           /* a finish below the start keeps it */
+    HEIGHT_UNSIGNED,       /* altitudes below 0 are taken for great ones */
+    HEIGHT_OVERWRITTEN,    /* each sample's altitude becomes the first */
+    HEIGHT_BEFORE,         /* the latest altitude is that before the last sample */
+    HEIGHT_FARTHEST,       /* the altitude farthest from the first stays the latest */
+    HEIGHT_REFUSED,        /* a refused sample's altitude becomes the latest */
+    HEIGHT_REFUSED_FIRST,  /* a refused sample's altitude becomes the first of an empty trip */
+    HEIGHT_EMPTY,          /* an empty trip is judged by the altitudes before it */
+    HEIGHT_CLEAR,          /* clear keeps the first altitude */
     TALLY_WRITES,          /* a refused tally writes its output */
     TALLY_SECOND,          /* a block whose first second is not 0 is refused */
     TALLY_FULL,            /* a block of 7202 samples is taken */
@@ -91,9 +105,25 @@ static int closed(const uint8_t *area, size_t area_len)
     return __real_rde_close(copy, sizeof copy).refusal == RDE_CLOSED;
 }
 
+/* Has the area the mark of the format before? */
+static int format_before(const uint8_t *area, size_t area_len)
+{
+    static uint8_t copy[RDE_AREA_LEN];
+    if (area_len != RDE_AREA_LEN)
+        return 0;
+    memcpy(copy, area, sizeof copy);
+    put_mark(__real_rde_clear, copy, 1);
+    return memcmp(copy, area, sizeof copy) == 0;
+}
+
+static unsigned u16_at(const uint8_t *p)
+{
+    return p[0] + 256u * p[1];
+}
+
 static unsigned second_of(const uint8_t *record)
 {
-    return record[0] + 256u * record[1];
+    return u16_at(record);
 }
 
 static uint64_t samples_of(const uint8_t *tally)
@@ -123,6 +153,53 @@ static rde_answer told(rde_answer a)
     return a;
 }
 
+/* --- Rule 21 --- */
+
+#define HEIGHT_RULE 21
+
+/* The altitudes as each fault keeps them; without a fault, as the library does. There is one set, of the area cleared last: tests that
+ * change an area's bytes compare no verdict on it. */
+static struct {
+    int started;               /* the first altitude is settled */
+    int samples;               /* accepted since clear */
+    int first, before, latest; /* before: the latest one as it was before the last sample */
+} heights;
+
+static void heights_clear(void)
+{
+    heights.samples = 0;
+    heights.started = heights.started && on(HEIGHT_CLEAR);
+}
+
+static void heights_sample(const uint8_t *record, int accepted)
+{
+    int altitude = on(HEIGHT_UNSIGNED) ? (int)u16_at(record + 4) : (int16_t)u16_at(record + 4);
+    if ((!heights.started && (accepted || on(HEIGHT_REFUSED_FIRST))) || (accepted && on(HEIGHT_OVERWRITTEN))) {
+        heights.started = 1;
+        heights.first = altitude;
+    }
+    if (accepted)
+        heights.before = heights.samples++ == 0 ? altitude : heights.latest;
+    if (accepted && on(HEIGHT_FARTHEST) && abs(heights.before - heights.first) > abs(altitude - heights.first))
+        altitude = heights.before;
+    if (accepted || on(HEIGHT_REFUSED))
+        heights.latest = altitude;
+}
+
+/* The verdict with rule 21 as one of its faults has it. */
+static rde_verdict_answer heights_told(rde_verdict_answer v)
+{
+    int rise = (on(HEIGHT_BEFORE) ? heights.before : heights.latest) - heights.first;
+    int most = 100 - on(HEIGHT_EARLY) + on(HEIGHT_LATE);
+    int broken = (heights.samples > 0 || on(HEIGHT_EMPTY)) && ((rise > most && !on(HEIGHT_UP)) || (rise < -most && !on(HEIGHT_DOWN)));
+    if (v.refusal != 0)
+        return v;
+    v.broken = (v.broken & ~(1u << HEIGHT_RULE)) | (uint32_t)broken << HEIGHT_RULE;
+    if (v.word == HEIGHT_RULE || v.word >= RDE_EXCEEDED)
+        v.word = broken ? HEIGHT_RULE : v.exceeded ? RDE_EXCEEDED : RDE_CLEAN;
+    return v;
+}
+
 /* --- The six calls --- */
 
 size_t __wrap_rde_area_len(void)
@@ -136,6 +213,8 @@ rde_answer __wrap_rde_clear(uint8_t *area, size_t area_len)
     rde_answer a = __real_rde_clear(area, length_of(area, area_len));
     if (mark)
         __real_rde_close(area, area_len);
+    if (a.refusal == 0)
+        heights_clear();
     if (on(CLEAR_VALUE) && a.refusal == 0)
         a.value = 1;
     return a;
@@ -191,6 +270,8 @@ rde_answer __wrap_rde_sample(uint8_t *area, size_t area_len, const uint8_t *reco
         (on(RECORD_UNDERREAD) && *(const volatile uint8_t *)(record - 1) == 7))
         return refused(RDE_DAMAGED);
     a = __real_rde_sample(area, length_of(area, area_len), record, record_len);
+    if (whole)
+        heights_sample(record, a.refusal == 0);
     if (on(REFUSAL_WRITES) && a.refusal == RDE_RANGE)
         area[60]++;
     if (on(RECORD_WRITES) && a.refusal == 0)
@@ -204,6 +285,8 @@ rde_answer __wrap_rde_close(uint8_t *area, size_t area_len)
 {
     if (on(CLOSE_NOTHING) && area_len == RDE_AREA_LEN && !closed(area, area_len))
         return (rde_answer){0, 0};
+    if (on(FORMAT_BEFORE) && format_before(area, area_len))
+        put_mark(__real_rde_clear, area, 0);
     return told(__real_rde_close(area, length_of(area, area_len)));
 }
 
@@ -225,7 +308,7 @@ rde_answer __wrap_rde_read(const uint8_t *area, size_t area_len, uint32_t window
 
 rde_verdict_answer __wrap_rde_verdict(const uint8_t *area, size_t area_len)
 {
-    rde_verdict_answer v = __real_rde_verdict(area, area_len);
+    rde_verdict_answer v = heights_told(__real_rde_verdict(area, area_len));
     if (on(UNCLEARED_CLEAN) && v.refusal == RDE_DAMAGED)
         return (rde_verdict_answer){0, 0, 0, RDE_CLEAN};
     if (on(VERDICT_EXCEEDED))

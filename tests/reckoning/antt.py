@@ -87,7 +87,7 @@ def small_list(rng, max_calls=14, max_samples=8):
 
 
 def function_list(rng, function):
-    """One window of that function on altitudes, read after each sample."""
+    """One window of that function on altitudes, read after each sample; a verdict."""
     window = generate.random_window(rng, 'altitudes')._replace(
         function=function, channel=1, condition=0, low=0,
         high=rng.choice((0, 300, 700, 3000)))
@@ -96,6 +96,7 @@ def function_list(rng, function):
     for _ in range(rng.randint(3, 6)):
         maker.sample()
         maker.make(('read', 0))
+    maker.make(('verdict',))
     return maker.calls, maker.answers
 
 
@@ -105,7 +106,8 @@ def small_lists(rng, count):
     fixed = generate.named_lists()
     names = ('case-a', 'case-b', 'case-i', 'order-closed', 'order-sample',
              'order-after-sample', 'order-17', 'read-numbers', 'edges-altitude',
-             'edges-temperature', 'window-faults', 'window-edges')
+             'edges-temperature', 'window-faults', 'window-edges', 'height-away-and-back',
+             'height-after-clear', 'height-far-refused', 'height-near-refused')
     lists = [fixed[name] for name in names][:count]
     while len(lists) < count:
         k = len(lists)
@@ -127,8 +129,7 @@ def edge_lists():
             for drive in (edge.kept, edge.broken):
                 lists.append(drives.calls_of(drive))
     limits = [v + d for v in (10, 600, 900, 1000, 1450, 1600, 2999) for d in (-1, 0, 1)]
-    lists.append([c for sample in drives.calls_of(drives.drive_of(limits))[:-1]
-                  for c in (sample, ('verdict',))])
+    lists.append(drives.judged_each(drives.calls_of(drives.drive_of(limits))[:-1]))
     return [(calls, reference.replay(calls)) for calls in lists]
 
 

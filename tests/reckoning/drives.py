@@ -1,9 +1,10 @@
 """Builders of whole trips for verdicts: random ones, ones on the two sides of
-each rule's edge, and the clean and the exceeded drive.
+each rule's edge, and the clean, the exceeded and the downhill drive.
 
 A drive is a list of reference.Sample with seconds from 0.  Speeds are in tenths
-of km/h; a distance is a sum of speeds over seconds (1/36,000 km).  The altitudes
-of a drive's first and last sample differ by at most 100 m (the self test checks it).
+of km/h; a distance is a sum of speeds over seconds (1/36,000 km).  Random drives,
+the downhill one and those of rule 21 apart, the altitudes of a drive's first and
+last sample differ by at most 100 m (the self test checks it).
 """
 
 from collections import namedtuple
@@ -30,6 +31,11 @@ def changed(drive, index, **fields):
 def calls_of(drive):
     """The drive as a list of calls: its samples, then one verdict."""
     return [('sample', reference.encode_sample(s)) for s in drive] + [('verdict',)]
+
+
+def judged_each(calls):
+    """The calls, each with a verdict after it."""
+    return [c for call in calls for c in (call, ('verdict',))]
 
 
 def block_of(drive):
@@ -128,6 +134,13 @@ def clean_drive(n=5400):
 def exceeded_drive(n=5400):
     """The same drive with NOx above the limit."""
     return drive_of(whole_speeds(n, *distance_shares(n)), nox=60)
+
+
+def downhill_drive(n=5400, drop=300):
+    """The clean drive from a hill down into the valley, evenly: it breaks rule 21
+    alone."""
+    return [s._replace(altitude=s.altitude + drop * (n - 1 - s.second) // (n - 1))
+            for s in clean_drive(n)]
 
 
 def with_nox_sum(drive, total):
@@ -305,6 +318,46 @@ def air_edges():
     return edges
 
 
+# Altitudes of the first and the last sample on the two sides of rule 21's edge, in
+# both senses: above, below and across zero, and at the ends of the range.
+HEIGHTS = [((100, 200), (100, 201)), ((200, 100), (201, 100)),
+           ((-60, 40), (-60, 41)), ((40, -60), (41, -60)),
+           ((-500, -400), (-500, -399)), ((1300, 1200), (1300, 1199))]
+HIGH_HEIGHTS = [((4900, 5000), (4899, 5000)),     # not in whole drives: rule 14
+                ((-500, -500), (-500, 5000)), ((5000, 5000), (5000, -500))]
+
+
+def with_heights(drive, first, last):
+    """The drive with these altitudes of its first and its last sample."""
+    return changed(changed(drive, 0, altitude=first), -1, altitude=last)
+
+
+def height_edges():
+    """Rule 21: 100 and 101 m between the first and the last sample, in two samples
+    and in whole drives; and a single sample."""
+    two, clean = drive_of([300] * 2), clean_drive()
+    edges = [Edge('one sample', 21, drive_of([300], altitude=5000),
+                  with_heights(two, 5000, 4899), False)]
+    for name, drive, heights, whole in (('%d to %d m, short', two, HEIGHTS + HIGH_HEIGHTS, False),
+                                        ('%d to %d m', clean, HEIGHTS, True)):
+        edges += [Edge(name % kept, 21, with_heights(drive, *kept),
+                       with_heights(drive, *broken), whole) for kept, broken in heights]
+    return edges + far_edges(', short', drive_of([300] * 4), False) + far_edges('', clean, True)
+
+
+def far_edges(ending, drive, whole):
+    """Rule 21: one sample 500 m up or down, the one beside the first or the last
+    (kept) and that itself (broken)."""
+    edges = []
+    for off in (500, -500):
+        far = FILL['altitude'] + off
+        for end_name, end, beside in (('first', 0, 1), ('last', -1, -2)):
+            edges.append(Edge('%d m beside the %s sample%s' % (off, end_name, ending), 21,
+                              changed(drive, beside, altitude=far),
+                              changed(drive, end, altitude=far), whole))
+    return edges
+
+
 def accelerating_count(drive, which):
     """How many samples of one class accelerate."""
     return sum(1 for s, a in zip(drive, reference.accelerations(drive))
@@ -463,7 +516,7 @@ def all_edges():
     return (length_edges() + short_share_edges() + share_edges() + distance_edges()
             + stop_edges() + mean_edges() + fast_edges() + top_edges() + air_edges()
             + accelerating_edges() + percentile_edges() + whole_percentile_edges()
-            + nox_edges())
+            + height_edges() + nox_edges())
 
 
 # --- Random drives -----------------------------------------------------------
@@ -474,21 +527,38 @@ EDGE_SPEEDS = (0, 9, 10, 599, 600, 601, 899, 900, 901, 1000, 1001, 1450, 1451,
 
 def random_drive(rng, n):
     """n samples in three parts, one per class in any order, or in one long rise;
-    NOx near the limit, air mostly in its limits.  All altitudes lie within 100 m,
-    but those above 1300 m, which are neither the first nor the last."""
+    NOx near the limit, air mostly in its limits."""
     nox = rng.choice((10, 20, 40, 45, 50, 60, 200))
-    ground = rng.choice((-500, -50, 650, 1200))
     wild_air = rng.random() < 0.3
     samples = []
-    for k, speed in enumerate(random_speeds(rng, n)):
-        temperature, altitude = rng.randint(2660, 3080), ground + rng.randint(0, 100)
+    altitudes = random_altitudes(rng, n)
+    for k, (speed, altitude) in enumerate(zip(random_speeds(rng, n), altitudes)):
+        temperature = rng.randint(2660, 3080)
         if wild_air and rng.random() < 0.02:
             temperature = rng.choice((2000, 2659, 3081, 3500))
-        if wild_air and 0 < k < n - 1 and rng.random() < 0.02:
+        if wild_air and rng.random() < 0.02:
             altitude = rng.choice((1301, 5000))
         samples.append(Sample(k, speed, altitude, temperature, rng.randint(300, 900),
                               max(0, nox + rng.randint(-10, 10)), rng.randint(0, 100000)))
     return samples
+
+
+def random_altitudes(rng, n):
+    """n altitudes in a band of 250 m, half of them near rule 21's edge."""
+    low = rng.choice((-500, -100, 650, 1050))
+    high = low + 250
+    altitudes = [rng.randint(low, high) for _ in range(n)]
+    for k in range(1, n):
+        if rng.random() < 0.5:
+            altitudes[k] = near_height(rng, altitudes[0], low, high)
+    return altitudes
+
+
+def near_height(rng, first, low, high):
+    """An altitude within low..high that lies near rule 21's edge, seen from the
+    first: 99 to 102 m up or down."""
+    return rng.choice([a for off in range(99, 103) for a in (first - off, first + off)
+                       if low <= a <= high])
 
 
 def random_speeds(rng, n):

@@ -155,6 +155,9 @@ class Maker:
     def sample(self):
         rng, count = self.rng, len(self.trip.samples)
         values = random_values(rng, self.style, self.before)
+        if count and rng.random() < 0.1:
+            values = dict(values, altitude=drives.near_height(
+                rng, self.trip.samples[0].altitude, *reference.RANGES['altitude']))
         self.before = values
         second = count
         if self.fault():
@@ -251,9 +254,7 @@ def verdict_list(rng, samples):
 
 def verdict_each_list(rng, samples):
     """A random drive with a verdict after every sample."""
-    calls = []
-    for call in drives.calls_of(drives.random_drive(rng, samples))[:-1]:
-        calls += [call, ('verdict',)]
+    calls = drives.judged_each(drives.calls_of(drives.random_drive(rng, samples))[:-1])
     return calls, reference.replay(calls)
 
 
@@ -266,6 +267,7 @@ def plain(second, **fields):
 
 
 WHOLE = Window(3, 0, 0, 0, 5, 0, INT_MIN, INT_MAX)   # largest speed, all qualify
+FAR = 5000                                           # m, the highest of its range
 
 
 def declared(window):
@@ -319,11 +321,44 @@ def marked_case_lists():
     return {'case-a': one, 'case-b': two, 'case-c': three, 'case-i': nine}
 
 
+def at_altitudes(*altitudes):
+    """Samples at these altitudes, from second 0 on."""
+    return [plain(k, altitude=a) for k, a in enumerate(altitudes)]
+
+
+def refused_samples(second, altitude):
+    """Samples of an open trip at that altitude: of 15 and 17 bytes, of the next
+    second, and with a speed outside its range."""
+    record = plain(second, altitude=altitude)[1]
+    return [('sample', record[:-1]), ('sample', record + b'\0'),
+            plain(second + 1, altitude=altitude), plain(second, altitude=altitude, speed=3001)]
+
+
+def height_lists():
+    """Rule 21, with a verdict after each call: 101 m away from the start and back; a
+    trip after a clear, and the same trip again after another; refused samples that
+    would break it, as the first or as the last one, and such as would mend it."""
+    far = [declared(WHOLE)] + refused_samples(0, FAR) + at_altitudes(0)
+    far += refused_samples(1, FAR) + [plain(1, altitude=FAR + 1), plain(1, altitude=100)]
+    near = at_altitudes(0, 101) + refused_samples(2, 0)
+    ended = [('close',), plain(2, altitude=FAR), plain(2, altitude=0)]
+    uphill = at_altitudes(1000, 1100, 1101)
+    return {
+        'height-away-and-back': [('verdict',)] + drives.judged_each(
+            at_altitudes(100, 201, 200, 101, -1, 0, FAR, 100, 1, -500, 201)),
+        'height-after-clear': drives.judged_each(
+            uphill + [('clear',)] + at_altitudes(40, -60, -61) + [('close',), ('clear',)] + uphill),
+        'height-far-refused': drives.judged_each(far + ended),
+        'height-near-refused': drives.judged_each(near + ended),
+    }
+
+
 def named_lists():
     """The fixed lists: {name: (calls, answers)}."""
     lists = {}
     lists.update(marked_case_lists())
     lists.update(refusal_order_lists())
+    lists.update(height_lists())
     for field in reference.RANGES:
         lists['edges-' + field] = field_edge_list(field)
     lists['window-faults'] = [declared(WHOLE._replace(**fault)) for fault in WINDOW_FAULTS]
@@ -335,17 +370,20 @@ def named_lists():
 
 
 def full_trip_list():
-    """7201 samples, then refusal 5 before 3 and 4, but after 1 and 2."""
+    """7201 samples, then refusal 5 before 3 and 4, but after 1 and 2; the altitudes
+    refused would break rule 21."""
     calls = drives.calls_of(drives.clean_drive(7201))
-    calls += [plain(7201), plain(0), plain(7201, speed=3001), ('sample', b''), ('close',),
-              plain(7201), ('verdict',), ('clear',), plain(0)]
+    far = plain(7201, altitude=FAR)
+    calls += [far, plain(0, altitude=FAR), plain(7201, altitude=FAR, speed=3001), ('sample', b''),
+              ('close',), far, ('verdict',), ('clear',), plain(0)]
     return calls, reference.replay(calls)
 
 
 def trip_lists():
-    """The clean, the exceeded and the full drive as lists of calls."""
+    """The clean, the exceeded, the downhill and the full drive as lists of calls."""
     yield 'clean', drive_list(drives.clean_drive())
     yield 'exceeded', drive_list(drives.exceeded_drive())
+    yield 'downhill', drive_list(drives.downhill_drive())
     yield 'full', full_trip_list()
 
 
@@ -475,6 +513,21 @@ def coverage(lists):
     return reached
 
 
+def judged_heights(lists):
+    """Of each verdict on samples: the last one's altitude less the first one's."""
+    heights = []
+    for calls, answers in lists:
+        altitudes = []
+        for call, answer in zip(calls, answers):
+            if call[0] == 'clear':
+                altitudes = []
+            if call[0] == 'sample' and answer[0] == 'number':
+                altitudes.append(reference.decode_sample(call[1]).altitude)
+            if call[0] == 'verdict' and altitudes:
+                heights.append(altitudes[-1] - altitudes[0])
+    return heights
+
+
 def main():
     parser = argparse.ArgumentParser(description='Write random lists of calls with their answers.')
     parser.add_argument('--lists', type=int, default=100, help='random lists')
@@ -489,7 +542,7 @@ def main():
     parser.add_argument('--tallies', type=int, default=0, help='tallies of blocks and joinings')
     parser.add_argument('--named', action='store_true', help='the fixed lists too')
     parser.add_argument('--trips', action='store_true',
-                        help='the clean, the exceeded and the full drive too')
+                        help='the clean, the exceeded, the downhill and the full drive too')
     parser.add_argument('--drives', action='store_true',
                         help='these and the edge drives too (large)')
     options = parser.parse_args()

@@ -1,6 +1,6 @@
 """Checks of the reckoning itself: the marked cases (a) to (i) of document 01,
-the reports, the rolling recount, the edge drives, and what the generator
-reaches.  Run: python3 tests/reckoning/selftest.py
+the reports, rule 21 of document 02's R-1 by hand, the rolling recount, the edge
+drives, and what the generator reaches.  Run: python3 tests/reckoning/selftest.py
 """
 
 import glob
@@ -115,6 +115,38 @@ def case_h():
 def case_i():
     trip, _ = make_trip([window(AVERAGE, 1, 5)], [dict(altitude=-3), dict(altitude=-4)])
     check('(i) average of -3 and -4', trip.read(0), ('number', -4))
+
+
+# --- Start and finish height (R-1) -------------------------------------------
+
+def height_bits(answers):
+    """Bit 21 of each verdict among these answers."""
+    return [answer[1] >> 21 & 1 for answer in answers if answer[0] == 'verdict']
+
+
+def height_cases():
+    """"broken when it is 101 m or more, in either sense; an empty trip keeps it"."""
+    for altitudes, broken in (
+            ([], 0), ([0], 0), ([-500], 0), ([5000], 0), ([7, 7], 0), ([-500, -500], 0),
+            ([0, 100], 0), ([0, 101], 1), ([100, 0], 0), ([101, 0], 1),
+            ([-60, 40], 0), ([-60, 41], 1), ([40, -60], 0), ([41, -60], 1),
+            ([-1, -101], 0), ([-1, -102], 1), ([-101, -1], 0), ([-102, -1], 1),
+            ([-500, 5000], 1), ([5000, -500], 1),
+            ([0, 500, 0], 0), ([0, -500, 100], 0), ([0, 0, 101], 1), ([101, 0, 0], 1),
+            ([0, 101, 100], 0), ([0, 51, 102], 1), ([0, 101, 202, 101, 0], 0)):
+        trip, _ = make_trip([], [dict(altitude=a) for a in altitudes])
+        check('rule 21, altitudes %s' % altitudes, height_bits([trip.verdict()]), [broken])
+    named = generate.named_lists()
+    for name, bits in (
+            ('height-away-and-back', [0, 0, 1, 0, 0, 1, 0, 1, 0, 0, 1, 1]),
+            ('height-after-clear', [0, 0, 1, 0, 0, 0, 1, 1, 0, 0, 0, 1]),
+            ('height-far-refused', [0] * 15), ('height-near-refused', [0] + [1] * 8)):
+        check('rule 21, ' + name, height_bits(named[name][1]), bits)
+    reasons = [answer[1] for name in ('height-far-refused', 'height-near-refused')
+               for answer in named[name][1] if answer[0] == 'refused']
+    check('the samples are refused for each reason', sorted(set(reasons)), [1, 2, 3, 4])
+    check('a full trip after refused samples', generate.full_trip_list()[1][-3],
+          ('verdict', 1 << 1, 0, 1))
 
 
 # --- The examples of the refusal table ---------------------------------------
@@ -259,6 +291,9 @@ def whole_drives():
               ('verdict', 0, 1, 32))
     check('its report', reference.report(drives.block_of(drives.exceeded_drive())),
           b'samples 5400\nbroken 00000000\nverdict exceeded\n')
+    downhill = drives.downhill_drive()
+    check('report of the downhill drive', reference.report(drives.block_of(downhill)),
+          b'samples 5400\nbroken 00200000\nverdict rule 21\n')
 
 
 def recorded(path):
@@ -268,32 +303,54 @@ def recorded(path):
     return [reference.decode_sample(data[k:k + 16]) for k in range(0, len(data), 16)]
 
 
+def side(height):
+    """The side of rule 21's edge: -1 broken downwards, 0 kept, 1 broken upwards."""
+    return (height > 100) - (height < -100)
+
+
 def steady(drive):
     """The first and the last altitude differ by at most 100 m."""
-    return not drive or abs(drive[-1].altitude - drive[0].altitude) <= 100
+    return not drive or side(drive[-1].altitude - drive[0].altitude) == 0
 
 
 def altitudes():
-    """No drive is made whose start and finish differ by more than 100 m, so that
-    each tests its own rule alone; rule 14's drives are no exception."""
-    edges = drives.all_edges()
-    check('edge drives start and finish within 100 m',
+    """Drives that are not for rule 21 start and finish within 100 m, so that each
+    tests its own rule alone, rule 14's too; random drives are on both sides."""
+    edges = [edge for edge in drives.all_edges() if edge.bit != 21]
+    check('edge drives of other rules start and finish within 100 m',
           [edge.name for edge in edges if not (steady(edge.kept) and steady(edge.broken))], [])
     whole = [make(n) for make in (drives.clean_drive, drives.exceeded_drive)
              for n in (5399, 5400, 7200, 7201)]
     check('whole drives start and finish within 100 m',
           [len(d) for d in whole if not steady(d)], [])
-    examples = sorted(glob.glob(EXAMPLES))
-    check('example drives start and finish within 100 m',
-          (len(examples) > 0, [p for p in examples if not steady(recorded(p))]), (True, []))
-    # with a verdict after every sample too: up to any sample but those above 1300 m
+    examples = {os.path.basename(path): recorded(path) for path in glob.glob(EXAMPLES)}
+    check('example drives start and finish within 100 m, but the downhill one',
+          [name for name, drive in examples.items() if not steady(drive)], ['downhill.drive'])
+    check('it breaks rule 21 alone', reference.verdict_of(examples['downhill.drive']),
+          ('verdict', 1 << 21, 0, 21))
     rng = random.Random(1)
     some = [drives.random_drive(rng, n) for n in range(200)]
-    check('random drives start and finish within 100 m',
-          [len(d) for d in some if not steady(d)
-           or not all(steady([d[0], s]) for s in d if s.altitude <= 1300)], [])
     check('random drives reach altitudes -500, 1300, 1301',
           {-500, 1300, 1301} - {s.altitude for d in some for s in d}, set())
+    reaches_heights('random drives', [generate.drive_list(d) for d in some])
+    reaches_heights('random drives judged after each sample',
+                    [generate.verdict_each_list(rng, 60) for _ in range(9)])
+
+
+def reaches_heights(name, lists):
+    """The verdicts meet rule 21's edge, up and down, and a fifth of them at least is
+    on each side of it."""
+    heights = generate.judged_heights(lists)
+    check('%s finish 100 and 101 m from the start' % name,
+          sorted({-101, -100, 100, 101} - set(heights)), [])
+    broken = sum(1 for height in heights if side(height) != 0)
+    check('%s break and keep rule 21' % name, 0.2 < broken / len(heights) < 0.8, True)
+
+
+def reaches_sides(name, lists):
+    """Some verdicts break rule 21 downwards, some keep it, some break it upwards."""
+    check('%s break rule 21 up and down' % name,
+          sorted({side(height) for height in generate.judged_heights(lists)}), [-1, 0, 1])
 
 
 # --- What the lists reach ----------------------------------------------------
@@ -301,7 +358,9 @@ def altitudes():
 def random_lists():
     rng = random.Random(1)
     lists = [generate.random_list(rng) for _ in range(2000)]
-    lists += generate.named_lists().values()
+    reaches_heights('random lists', lists)
+    named = list(generate.named_lists().values())
+    lists += named
     reached = generate.coverage(lists)
     wanted = [(kind, 0) for kind in reference.KINDS]
     wanted += [('sample', k) for k in (1, 2, 3, 4)] + [('close', 2)]
@@ -311,6 +370,7 @@ def random_lists():
     small = antt.small_lists(random.Random(1), 300)
     reached = generate.coverage(small)
     check('small lists reach every answer', [w for w in wanted if w not in reached], [])
+    reaches_sides('small lists', [each for each in small if each not in named])
     again = [generate.random_list(rng) for rng in [random.Random(1)] for _ in range(50)]
     check('the same seed gives the same lists', again, lists[:50])
     calls, answers = generate.full_trip_list()
@@ -343,11 +403,13 @@ def small_drives():
             check('a drive of 60 to 90 samples, accelerating in all classes', False, True)
             return
     check('drives of 60 to 90 samples, accelerating in all classes', True, True)
+    reaches_sides('small drives', antt.verdict_lists(random.Random(1), 20))
 
 
 def main():
     for case in (case_a, case_b, case_c, case_d, case_e, case_f, case_g, case_h, case_i):
         case()
+    height_cases()
     refusal_examples()
     recount(1, 300)
     definitions(1, 500)

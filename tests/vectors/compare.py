@@ -72,7 +72,7 @@ def lists():
         yield ('long list %d' % k,) + after_clear(*generate.long_list(rng, 1500))
     for k in range(10):
         yield ('verdicts %d' % k,) + after_clear(*generate.verdict_each_list(rng, 120))
-    for n, drive in (('clean', drives.clean_drive()), ('exceeded', drives.exceeded_drive())):
+    for n, drive in (('clean', drives.clean_drive()), ('exceeded', drives.exceeded_drive()), ('downhill', drives.downhill_drive())):
         yield (n + ' drive',) + after_clear(*generate.drive_list(drive))
 
 

@@ -18,6 +18,7 @@ use Rattle.model.specs.Records.{maxSamples}
 use Rattle.model.specs.Tallies.{tallyLength}
 use Rattle.field.specs.Part.{part, put, Apart, part-same, part-other, put-lent}
 use Rattle.slots.specs.Layout.{partLen}
+use Rattle.altitudes.specs.Ends.{endsLen}
 
 -- bytes of a number of the head, and of the speeds: a u16 for each sample, and one spare
 abbrev pub numberLen : ℕ
@@ -41,8 +42,10 @@ lengths =
     ∷ 48
     -- tally
     ∷ tallyLength
-    -- reserved: one more number of a tally, two altitudes
-    ∷ 16
+    -- reserved: one more number of a tally
+    ∷ 8
+    -- altitudes of the first and of the latest sample (crate altitudes)
+    ∷ endsLen
     -- speeds, u16 by second
     ∷ speedsLen
     -- the windows: room for stream expressions, the ring of the last records, the move count, the slots (crate slots)
@@ -68,11 +71,14 @@ formatPart = 3
 abbrev pub tallyPart : ℕ
 tallyPart = 5
 
+abbrev pub altitudesPart : ℕ
+altitudesPart = 7
+
 abbrev pub speedsPart : ℕ
-speedsPart = 7
+speedsPart = 8
 
 abbrev pub slotsPart : ℕ
-slotsPart = 8
+slotsPart = 9
 
 -- what stands before the k-th of a list of lengths, and all of them together
 unfoldable pub before : List ℕ → ℕ → ℕ
@@ -91,9 +97,9 @@ place k = before lengths k
 unfoldable pub size : ℕ → ℕ
 size k = getD lengths k 0
 
--- the mark of an area of this format: the bytes "RDE1"; it changes with the layout and with what the bytes mean
+-- the mark of an area of this format: the bytes "RDE2"; it changes with the layout and with what the bytes mean
 abbrev pub formatNumber : ℕ
-formatNumber = 826623058
+formatNumber = 843400274
 
 -- the length of the area
 abbrev pub areaLen : ℕ
@@ -129,6 +135,9 @@ formatMark p = leVal (p formatPart)
 
 abbrev pub tallyIn : Parts → List ℕ
 tallyIn p = p tallyPart
+
+abbrev pub altitudesIn : Parts → List ℕ
+altitudesIn p = p altitudesPart
 
 abbrev pub speedsIn : Parts → List ℕ
 speedsIn p = p speedsPart

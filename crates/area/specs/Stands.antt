@@ -12,7 +12,8 @@ use Rattle.model.specs.Tallies.{tallyOf, tallyBytes}
 use Rattle.model.specs.Trip.{Trip}
 use Rattle.model.specs.Verdicts.{verdictOf}
 use Rattle.window.specs.Stand as window
-use Rattle.area.specs.Layout.{areaLen, Parts, partsOf, sampleCount, closedMark, windowCount, formatMark, formatNumber, tallyIn, speedsIn, slotsIn}
+use Rattle.altitudes.specs.Ends.{endsFrom, EndsOf}
+use Rattle.area.specs.Layout.{areaLen, Parts, partsOf, sampleCount, closedMark, windowCount, formatMark, formatNumber, tallyIn, altitudesIn, speedsIn, slotsIn}
 
 -- the parts hold what the trip's lists and mark say
 pub record Holds (p : Parts) (t : Trip) : Type 0 where
@@ -21,6 +22,7 @@ pub record Holds (p : Parts) (t : Trip) : Type 0 where
   pub windows : windowCount p ≡ length (t .windows)
   pub format : formatMark p ≡ formatNumber
   pub tally : tallyIn p ≡ tallyBytes (tallyOf (t .samples))
+  pub altitudes : EndsOf (t .samples) (endsFrom (altitudesIn p))
   pub speeds : cells 2 leVal (speedsIn p) (length (t .samples)) ≡ map speed (t .samples)
   pub slots : window.Stands (t .windows) (t .samples) (slotsIn p)
 

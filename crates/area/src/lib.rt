@@ -12,9 +12,10 @@ ghost use Rattle.model.specs.Numbers.{leVal};
 ghost use Rattle.model.specs.Records.{maxSamples};
 ghost use Rattle.model.specs.Tallies.{tallyBytes, tallyFrom};
 ghost use Rattle.power.specs.Speeds.{Appended};
+ghost use Rattle.altitudes.specs.Ends.{Kept};
 ghost use Rattle.tally.specs.Sound.{Sound as SoundTally};
 ghost use Rattle.tally_bytes.specs.Low.{Low};
-ghost use Rattle.area.specs.Layout.{areaLen, headNumbers, samplesPart, markPart, windowsPart, formatPart, tallyPart, speedsPart, partsOf, with, formatNumber, sampleCount, closedMark, windowCount, formatMark, tallyIn};
+ghost use Rattle.area.specs.Layout.{areaLen, headNumbers, samplesPart, markPart, windowsPart, formatPart, tallyPart, altitudesPart, speedsPart, partsOf, with, formatNumber, sampleCount, closedMark, windowCount, formatMark, tallyIn};
 ghost use Rattle.area.specs.Stands.{Judges};
 ghost use Rattle.area.specs.Effects.{Changed, Numbered};
 
@@ -29,8 +30,8 @@ const WINDOWS: usize = 2;
 
 const FORMAT_MARK: usize = 3;
 
-// The mark of an area of this format: the bytes "RDE1". It changes with the layout and with what the bytes mean.
-pub const FORMAT: u32 = 0x3145_4452;
+// The mark of an area of this format: the bytes "RDE2". It changes with the layout and with what the bytes mean.
+pub const FORMAT: u32 = 0x3245_4452;
 
 // The refusal of an area that is found to stand for no trip; document 01 leaves the number free.
 pub const DAMAGED: u32 = 255;
@@ -40,9 +41,11 @@ const HEAD_LEN: usize = 64;
 
 const TALLY: usize = HEAD_LEN;
 
-const RESERVED_LEN: usize = 16;
+const RESERVED_LEN: usize = 8;
 
-const SPEEDS: usize = TALLY + TALLY_LEN + RESERVED_LEN;
+const ALTITUDES: usize = TALLY + TALLY_LEN + RESERVED_LEN;
+
+const SPEEDS: usize = ALTITUDES + altitudes::ENDS_LEN;
 
 pub const SLOTS: usize = SPEEDS + 2 * (MAX_SAMPLES as usize + 1);
 
@@ -146,6 +149,14 @@ pub fn write_tally(area: &mut [u8], t: Tally)
     tally_bytes::write(t, area, TALLY);
 }
 
+// The altitude of second n becomes the latest, that of second 0 also the first.
+pub fn keep_altitude(area: &mut [u8], n: usize, altitude: i16)
+    requires { ⌜ length (now area) ≡ areaLen ⌝ }
+    ensures { λ _. ⌜ Changed altitudesPart (Kept n altitude) (partsOf (now (area .entry))) (partsOf (now (area .exit))) ⌝ }
+{
+    altitudes::keep(&mut area[ALTITUDES..SPEEDS], n, altitude);
+}
+
 // The speed of second n goes after the first n.
 pub fn append_speed(area: &mut [u8], n: usize, v: Speed)
     requires { ⌜ (length (now area) ≡ areaLen) × (n < maxSamples) ⌝ }
@@ -159,5 +170,6 @@ pub fn judge(area: &[u8], t: Tally, n: usize) -> Verdict
     requires { ⌜ (length (now area) ≡ areaLen) × ((n ≤ maxSamples) × SoundTally t) ⌝ }
     ensures { λ r. ⌜ Judges (partsOf (now (area .entry))) t n r ⌝ }
 {
-    verdict::verdict(t, &area[SPEEDS..SLOTS], n)
+    let e = altitudes::read(&area[ALTITUDES..SPEEDS]);
+    verdict::verdict(t, &area[SPEEDS..SLOTS], n, e)
 }

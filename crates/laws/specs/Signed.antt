@@ -1,10 +1,12 @@
 -- Signed numbers: bounds on their size, sums and products that fit a width, and floor division as code makes it.
 --     small                            a number that is small either way fits a width
+--     abs-mag                          the size of a number is at most one more than its `mag`, which is what `SFits` bounds
 --     abs-add, abs-sub, abs-mul        the size of a sum, a difference and a product
 --     plus, difference, product        what the code's sum, difference and product of small numbers is, and that it fits
 --     less-fits, rolled-fits           a sum from which one value goes and to which one comes
 --     floor-below, floor-above         what the two arms of a floor division compute; flip-fits, quot-fits: that they fit
 --     scaled                           the order is kept by a factor from zero on
+--     cast-fits, cast-is               a number of one width as one of another
 --     widened-fits, widened-is         an i32 as an i64
 --     within-positive, size-within     a number from zero to a bound; within-plus: the sum of two
 -- Assumes nothing.
@@ -16,7 +18,7 @@ use native.Mathlib.Omega.{arith}
 use borrow.Author.Tests.{leb-true, le-leb, le-ltb, ltb-true}
 use lib.Dec.{T, leb, ltb}
 use lib.IntN.{ℤ, pos, negsuc, negℤ, subℕ, natAbs, _+ℤ_, _-ℤ_, _*ℤ_}
-use lib.Signed.{leZ, ltZ, quotZ}
+use lib.Signed.{leZ, ltZ, mag, quotZ}
 use mir.Syntax.{Width, w32, w64}
 use mir.Val.{SFits, ofZ, toZ, hbits}
 use mir.ValLaws.{toZ-ofZ, toZ-pos}
@@ -27,6 +29,10 @@ use Rattle.laws.specs.Tests.{both}
 pub small : (w : Width) (z : ℤ) → natAbs z < 2 ^ hbits w → SFits w z
 small w (pos k) h = record { sfits = h }
 small w (negsuc k) h = record { sfits = omega arith }
+
+pub abs-mag : (z : ℤ) → natAbs z ≤ suc (mag z)
+abs-mag (pos n) = omega arith
+abs-mag (negsuc n) = omega arith
 
 -- The size of a sum, a difference and a product.
 
@@ -169,6 +175,15 @@ scaled k (pos a) (negsuc b) h = absurd (false≢true h)
 scaled k (negsuc a) (pos b) h = neg-pos (k * suc a) (k * b)
 scaled k (negsuc a) (negsuc b) h = neg-neg (k * suc a) (k * suc b) (mul-le-mul-left k (omega (arith, leb-true b a h)))
 
+-- A number of one width as one of another, which it fits too.
+
+module _ (v w : Width) (z : ℤ) (f : SFits v z) (g : SFits w z) where
+  pub cast-fits : SFits w (toZ v (ofZ v z))
+  cast-fits = rw (toZ-ofZ v z f) g
+
+  pub cast-is : toZ w (ofZ w (toZ v (ofZ v z))) ≡ z
+  cast-is = rw (toZ-ofZ v z f) (toZ-ofZ w z g)
+
 -- An i32 as an i64.
 
 module _ (z : ℤ) (f : SFits w32 z) where
@@ -176,10 +191,10 @@ module _ (z : ℤ) (f : SFits w32 z) where
   wide = record { sfits = omega (arith, f .sfits) }
 
   pub widened-fits : SFits w64 (toZ w32 (ofZ w32 z))
-  widened-fits = rw (toZ-ofZ w32 z f) wide
+  widened-fits = cast-fits w32 w64 z f wide
 
   pub widened-is : toZ w64 (ofZ w64 (toZ w32 (ofZ w32 z))) ≡ z
-  widened-is = rw (toZ-ofZ w32 z f) (toZ-ofZ w64 z wide)
+  widened-is = cast-is w32 w64 z f wide
 
 -- A number from zero to a bound.
 

@@ -10,7 +10,7 @@ use Rattle.model.specs.declared.Sample.{Sample}
 use Rattle.model.specs.Numbers.{leVal, leAt, leBytes, signed, within, withinℤ, outside, floorDiv, all, range, sumℤ, filter, count, any, total, minus}
 use Rattle.model.specs.Records.{sampleOf, inRange, channels, channel, functions, windowOf, fieldsKept, layoutKept, recordAt}
 use Rattle.model.specs.Windows.{sampleAt, lookedAt, qualifies, qualifying, valueAt, values, fold, smallest, largest, average, enough, percentile, figure, reading, keepsEntries, entries, displaces, undisplaced, held, moves}
-use Rattle.model.specs.Rules.{inClass, samplesIn, distanceIn, distance, stopped, above100, above145, above160, temperatureFault, altitudeFault, speedAt, speedBefore, acceleration, accelerating, power, acceleratingIn, p95, tooShort, tooLong, shareOutside, tooNear, stopsOutside, urbanMeanOutside, tooFewAbove100, someAbove160, tooManyAbove145, someTemperatureFault, someAltitudeFault, tooFewAccelerating, slow, powerFactor, limitSide, beyondLimit, someBeyond, powerBeyond, rules}
+use Rattle.model.specs.Rules.{inClass, samplesIn, distanceIn, distance, stopped, above100, above145, above160, temperatureFault, altitudeFault, speedAt, speedBefore, acceleration, accelerating, power, acceleratingIn, p95, tooShort, tooLong, shareOutside, tooNear, stopsOutside, urbanMeanOutside, tooFewAbove100, someAbove160, tooManyAbove145, someTemperatureFault, someAltitudeFault, tooFewAccelerating, slow, powerFactor, limitSide, beyondLimit, someBeyond, powerBeyond, apart, lastOf, endsApart, rules}
 use Rattle.model.specs.Verdicts.{broken, mask, noxSum, exceedsLimit, exceeded, finding, verdictOf}
 use Rattle.model.specs.Refusals.{unless, sampleRefusals, declareRefusals, closeRefusals, readRefusals}
 use Rattle.model.specs.Trip.{Call, declare, sample, read, Answer, number, withSample, withWindow, windowAt, told, outcome, said, left, answers, empty}
@@ -105,7 +105,7 @@ unfolding
     inClass samplesIn distanceIn distance stopped above100 above145 above160 temperatureFault altitudeFault
     speedAt speedBefore acceleration accelerating power acceleratingIn p95
     tooShort tooLong shareOutside tooNear stopsOutside urbanMeanOutside tooFewAbove100 someAbove160 tooManyAbove145
-    someTemperatureFault someAltitudeFault tooFewAccelerating slow powerFactor limitSide beyondLimit someBeyond powerBeyond rules
+    someTemperatureFault someAltitudeFault tooFewAccelerating slow powerFactor limitSide beyondLimit someBeyond powerBeyond apart lastOf endsApart rules
     broken mask noxSum exceedsLimit exceeded finding verdictOf
     unless sampleRefusals declareRefusals closeRefusals readRefusals withSample withWindow windowAt told outcome said left answers
     recordAt ascii digits decimal hexDigit hexadecimal findingText acceptedText refusedText pieces onOutcome reportFrom report

@@ -1,10 +1,10 @@
--- The rules of a trip (document 01, "The rules"; Regulation (EU) 2017/1151, Annex IIIA). A rule is a test of the samples: true where it is broken.
+-- The rules of a trip (document 01, "The rules"; document 02, R-1; Regulation (EU) 2017/1151, Annex IIIA). A rule is a test of the samples: true where it is broken.
 use mathlib.Core.Bool.{Bool, false, cond, _&&_}
 use mathlib.Core.List.{List, [], _∷_, map}
 use mathlib.Core.Option.{Option, none, some}
 use Prim.Native.Nat.{ℕ, zero, suc, _+_, _*_}
 use lib.Dec.{leb, ltb}
-use lib.IntN.{ℤ, pos, _-ℤ_, _*ℤ_}
+use lib.IntN.{ℤ, pos, natAbs, _-ℤ_, _*ℤ_}
 use lib.ListN.{length}
 use lib.Signed.{leZ, ltZ}
 use Rattle.model.specs.declared.Distance.{Distance}
@@ -155,6 +155,20 @@ someBeyond n s (some p) = beyondLimit n s p
 unfoldable pub powerBeyond : SpeedClass → List Sample → Bool
 powerBeyond c ss = someBeyond (samplesIn c ss) (units (distanceIn c ss)) (p95 c ss)
 
+-- two altitudes that differ by "101 m or more, in either sense" (R-1)
+unfoldable pub apart : ℤ → ℤ → Bool
+apart a b = leb 101 (natAbs (b -ℤ a))
+
+-- the last of a trip's samples, by its first and those after it
+unfoldable pub lastOf : Sample → List Sample → Sample
+lastOf s [] = s
+lastOf s (x ∷ ss) = lastOf x ss
+
+-- rule 21 (R-1): "the height difference between the first and last sample", whatever lies between; "an empty trip keeps it", and one of one sample, which is both
+unfoldable pub endsApart : List Sample → Bool
+endsApart [] = false
+endsApart (s ∷ ss) = apart (s .altitude) (lastOf s ss .altitude)
+
 -- rule k stands at place k
 unfoldable pub rules : List (List Sample → Bool)
 rules =
@@ -179,4 +193,5 @@ rules =
     ∷ powerBeyond Urban
     ∷ powerBeyond Rural
     ∷ powerBeyond Motorway
+    ∷ endsApart
     ∷ []

@@ -1,4 +1,4 @@
-// The types and figures that code and definitions share. The definitions of document 01 are in specs/.
+// The types and figures that code and definitions share. The definitions are in specs/.
 ghost use mathlib.Core.Path.{_≡_};
 ghost use Prim.Native.Nat.{_≤_};
 ghost use Rattle.model.specs.Numbers.{bit};

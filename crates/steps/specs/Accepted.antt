@@ -21,11 +21,12 @@ use Rattle.laws.specs.Lists.{length-zero}
 use Rattle.slide.specs.Moves.{counted-moves, moves-bound}
 use Rattle.slots.specs.Layout.{movesOf}
 use Rattle.tally.specs.Add.{added, tally-more}
+use Rattle.altitudes.specs.Ends.{endsFrom, EndsOf, withAltitude, ends-with}
 use Rattle.reading.specs.Read.{Reads}
 use Rattle.window.specs.Stand as window
 use Rattle.window.specs.Sweep.{Added}
 use Rattle.reading.specs.declared.Reading.the-variants.{Value, NoneQualifies}
-use Rattle.area.specs.Layout.{areaLen, samplesPart, markPart, windowsPart, formatPart, tallyPart, slotsPart, Parts, partsOf, with, formatNumber, sampleCount, closedMark, windowCount, formatMark, tallyIn, speedsIn, slotsIn}
+use Rattle.area.specs.Layout.{areaLen, samplesPart, markPart, windowsPart, formatPart, tallyPart, slotsPart, Parts, partsOf, with, formatNumber, sampleCount, closedMark, windowCount, formatMark, tallyIn, altitudesIn, speedsIn, slotsIn}
 use Rattle.area.specs.Stands.{Holds, Stands, Judges}
 use Rattle.area.specs.Effects.{Changed, Numbered}
 use Rattle.taking.specs.Effects.{Taken, Accepts, number-fine}
@@ -45,7 +46,7 @@ module _ (p : Parts) (t : Trip) (h : Holds p t) where
 -- A sample.
 
 taken-holds : (p q : Parts) (t : Trip) (k n : ℕ) (r : List ℕ) (tl : Tally) → Holds p t → k ≡ windowCount p → n ≡ sampleCount p → inRange (sampleOf r) ≡ true
-    → tl ≡ added (tallyFrom (tallyIn p)) (sampleOf r) → Taken k n r (sampleOf r .speed) tl p q → Holds q (withSample t (sampleOf r))
+    → tl ≡ added (tallyFrom (tallyIn p)) (sampleOf r) → Taken k n r (sampleOf r) tl p q → Holds q (withSample t (sampleOf r))
 unfolding withSample with
 taken-holds p q t k n r tl h ek en i et x =
     let x₀ : Sample = sampleOf r in
@@ -58,6 +59,7 @@ taken-holds p q t k n r tl h ek en i et x =
       windows = x .windows ∙ h .windows;
       format = x .format ∙ h .format;
       tally = x .tally ∙ ap tallyBytes (et ∙ ap (λ (u : Tally). added u x₀) (tally-held p t h) ∙ sym (tally-more ss x₀));
+      altitudes = subst (EndsOf (ss ++ (x₀ ∷ []))) (sym (x .altitudes ∙ ap (λ (m : ℕ). withAltitude m (x₀ .altitude) (endsFrom (altitudesIn p))) nn)) (ends-with ss x₀ _ (h .altitudes));
       speeds = ap (cells 2 leVal (speedsIn q)) (sym one) ∙ x .added .speeds
           ∙ ap (λ (l : List ℕ). l ++ (speed x₀ ∷ [])) (ap (cells 2 leVal (speedsIn p)) nn ∙ h .speeds) ∙ sym (map-append speed ss (x₀ ∷ []));
       slots = x .stepped .on (t .windows) ss (h .slots) (sym (ek ∙ h .windows)) (sym nn) i;
@@ -93,6 +95,10 @@ module _ {s s′ r : List ℕ} {n : ℕ} (size′ : length s′ ≡ areaLen) (b 
       let y = x .unsound k refl in
       rw (y .0, y .1 .0) (sample-damaged (b .lent .size) (b .lent .whole) (y .1 .1))
 
+-- the altitudes of equal parts
+same-altitudes : {l m : List ℕ} (ss : List Sample) → m ≡ l → EndsOf ss (endsFrom l) → EndsOf ss (endsFrom m)
+same-altitudes {l} {m} ss e h = subst (λ (k : List ℕ). EndsOf ss (endsFrom k)) (sym e) h
+
 -- A window.
 
 declared-holds : (p q : Parts) (t : Trip) (k : ℕ) (r : List ℕ) → Holds p t → sampleCount p ≡ 0 → k ≡ windowCount p → layoutKept r ≡ true
@@ -107,6 +113,7 @@ declared-holds p q t k r h early ek l is more x =
       windows = more ∙ ap (λ (m : ℕ). m + 1) kk ∙ sym (length-append (t .windows) (windowOf r ∷ []));
       format = ap formatMark is ∙ h .format;
       tally = ap tallyIn is ∙ h .tally;
+      altitudes = same-altitudes (t .samples) (ap altitudesIn is) (h .altitudes);
       speeds = ap (λ (z : Parts). cells 2 leVal (speedsIn z) (length (t .samples))) is ∙ h .speeds;
       slots = subst (λ (ss : List Sample). window.Stands (t .windows ++ (windowOf r ∷ [])) ss (slotsIn q)) (sym none)
           (x .on (t .windows) (subst (λ (ss : List Sample). window.Stands (t .windows) ss (slotsIn p)) none (h .slots)) kk l);
@@ -153,6 +160,7 @@ module _ {s s′ : List ℕ} (size : length s ≡ areaLen) (size′ : length s�
             windows = ap windowCount (f .is) ∙ h .windows;
             format = ap formatMark (f .is) ∙ h .format;
             tally = ap tallyIn (f .is) ∙ h .tally;
+            altitudes = same-altitudes (t .samples) (ap altitudesIn (f .is)) (h .altitudes);
             speeds = ap (λ (z : Parts). cells 2 leVal (speedsIn z) (length (t .samples))) (f .is) ∙ h .speeds;
             slots = subst (window.Stands (t .windows) (t .samples)) (sym (ap slotsIn (f .is))) (h .slots);
           };
@@ -182,6 +190,7 @@ module _ {s s′ : List ℕ} (size : length s ≡ areaLen) (size′ : length s�
           windows = ap windowCount (h .is) ∙ ap windowCount (g .is) ∙ f .value;
           format = ap formatMark (h .is) ∙ ap formatMark (g .is) ∙ ap formatMark (f .is) ∙ m .value;
           tally = ap tallyIn (h .is) ∙ ap tallyIn (g .is) ∙ ap tallyIn (f .is) ∙ ap tallyIn (m .is) ∙ ap tallyIn a ∙ ap tallyBytes e;
+          altitudes = unfold EndsOf in tt;
           speeds = unfold cells in refl;
           slots = subst (window.Stands [] []) (sym (ap slotsIn (h .is) ∙ ap slotsIn (g .is) ∙ ap slotsIn (f .is) ∙ ap slotsIn (m .is) ∙ ap slotsIn a)) (w .by);
         };

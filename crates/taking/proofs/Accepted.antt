@@ -5,16 +5,16 @@ use Prim.Native.Nat.{ℕ, _+_}
 use native.Mathlib.Omega.{arith}
 use lib.IntN.{ℤ}
 use Rattle.model.specs.declared.Sample.{Sample}
-use Rattle.model.specs.declared.Speed.{Speed}
 use Rattle.model.specs.declared.Tally.{Tally}
 use Rattle.model.specs.Records.{sampleOf}
 use Rattle.model.specs.Tallies.{tallyBytes, tallyFrom}
 use Rattle.model.specs.Trip.{Trip, number, refused}
 use Rattle.power.specs.Speeds.{Appended}
+use Rattle.altitudes.specs.Ends.{Kept}
 use Rattle.tally.specs.Add.{added}
 use Rattle.tally_bytes.specs.Low.{Low}
 use Rattle.window.specs.Sweep.{Stepped}
-use Rattle.area.specs.Layout.{samplesPart, tallyPart, speedsPart, slotsPart, Parts, partsOf, with, closedMark, windowCount, formatMark, tallyIn, speedsIn, slotsIn}
+use Rattle.area.specs.Layout.{samplesPart, tallyPart, altitudesPart, speedsPart, slotsPart, Parts, partsOf, with, closedMark, windowCount, formatMark, tallyIn, altitudesIn, speedsIn, slotsIn}
 use Rattle.area.specs.Stands.{damaged, Stands}
 use Rattle.area.specs.Effects.{Changed, Numbered}
 use Rattle.area_windows.specs.Effects.{CountedMoves}
@@ -23,34 +23,40 @@ use Rattle.taking.specs.Effects.{Taken, Accepts, number-fine}
 number-same : (z y : ℤ) → number z ≡ number y → z ≡ y
 number-same z y e = cc
 
--- the tally, then the windows, then the speeds, then the number of samples
-pub taken : {k n : ℕ} {r : List ℕ} {v : Speed} {tl : Tally} {p p₁ p₂ p₃ q : Parts} → p₁ ≡ with tallyPart (tallyBytes tl) p → Changed slotsPart (Stepped k n r) p₁ p₂
-    → Changed speedsPart (Appended n v) p₂ p₃ → Numbered samplesPart (n + 1) p₃ q → Taken k n r v tl p q
+-- what is said of two parts, said of equal ones
+carried : (R : List ℕ → List ℕ → Type 0) {a a′ b b′ : List ℕ} → a ≡ a′ → b′ ≡ b → R a b → R a′ b′
+carried R {a} {a′} {b} {b′} e f r = subst (R a′) (sym f) (subst (λ (l : List ℕ). R l b) e r)
+
+-- the tally, then the windows, then the speeds, then the altitudes, then the number of samples; z is the altitude
+pub taken : {k n : ℕ} {r : List ℕ} {x : Sample} {tl : Tally} {z : ℤ} {p p₁ p₂ p₃ p₄ q : Parts} → p₁ ≡ with tallyPart (tallyBytes tl) p → Changed slotsPart (Stepped k n r) p₁ p₂
+    → Changed speedsPart (Appended n (x .speed)) p₂ p₃ → Changed altitudesPart (Kept n z) p₃ p₄ → Numbered samplesPart (n + 1) p₄ q → z ≡ x .altitude
+    → Taken k n r x tl p q
 unfolding with
-taken {k} {n} {r} {v} {tl} {p} {p₁} {p₂} {p₃} {q} e w a f =
-    let slots : slotsIn q ≡ slotsIn p₂ = ap slotsIn (f .is) ∙ ap slotsIn (a .is) in
-    let speeds : speedsIn q ≡ speedsIn p₃ = ap speedsIn (f .is) in
-    let old-slots : slotsIn p₁ ≡ slotsIn p = ap slotsIn e in
-    let old-speeds : speedsIn p₂ ≡ speedsIn p = ap speedsIn (w .is) ∙ ap speedsIn e in
+taken {k} {n} {r} {x} {tl} {z} {p} {p₁} {p₂} {p₃} {p₄} {q} is₁ w a b f ez =
+    let is₂ = w .is ∙ ap (with slotsPart (slotsIn p₂)) is₁ in
+    let is₃ = a .is ∙ ap (with speedsPart (speedsIn p₃)) is₂ in
+    let is₄ = b .is ∙ ap (with altitudesPart (altitudesIn p₄)) is₃ in
+    let is = f .is ∙ ap (with samplesPart (q samplesPart)) is₄ in
     record {
-      mark = ap closedMark (f .is) ∙ ap closedMark (a .is) ∙ ap closedMark (w .is) ∙ ap closedMark e;
-      windows = ap windowCount (f .is) ∙ ap windowCount (a .is) ∙ ap windowCount (w .is) ∙ ap windowCount e;
-      format = ap formatMark (f .is) ∙ ap formatMark (a .is) ∙ ap formatMark (w .is) ∙ ap formatMark e;
-      tally = ap tallyIn (f .is) ∙ ap tallyIn (a .is) ∙ ap tallyIn (w .is) ∙ ap tallyIn e;
+      mark = ap closedMark is;
+      windows = ap windowCount is;
+      format = ap formatMark is;
+      tally = ap tallyIn is;
       samples = f .value;
-      added = subst (Appended n v (speedsIn p)) (sym speeds) (subst (λ (l : List ℕ). Appended n v l (speedsIn p₃)) old-speeds (a .by));
-      stepped = subst (Stepped k n r (slotsIn p)) (sym slots) (subst (λ (l : List ℕ). Stepped k n r l (slotsIn p₂)) old-slots (w .by));
+      added = carried (Appended n (x .speed)) (ap speedsIn is₂) (ap speedsIn is) (a .by);
+      altitudes = carried (Kept n (x .altitude)) (ap altitudesIn is₃) (ap altitudesIn is) (subst (λ (y : ℤ). Kept n y (altitudesIn p₃) (altitudesIn p₄)) ez (b .by));
+      stepped = carried (Stepped k n r) (ap slotsIn is₁) (ap slotsIn is) (w .by);
     }
 
 -- a sample is taken with the tally that was read
 pub take-done : {s s′ r : List ℕ} {n k : ℕ} {z : ℤ} {x₀ : Sample} {t u : Tally} → k ≡ windowCount (partsOf s) → x₀ ≡ sampleOf r → Low (tallyIn (partsOf s)) t → u ≡ added t x₀
-    → Taken k n r (x₀ .speed) u (partsOf s) (partsOf s′) → CountedMoves (partsOf s′) z → Accepts r n s (number z) s′
+    → Taken k n r x₀ u (partsOf s) (partsOf s′) → CountedMoves (partsOf s′) z → Accepts r n s (number z) s′
 take-done {s} {s′} {r} {n} {k} {z} {x₀} {t} {u} ek ex low eu x c = record {
   taken = λ y e h.
       let f : z ≡ y = number-same z y e in
-      let y₁ = subst (λ (m : ℕ). Taken m n r (x₀ .speed) u (partsOf s) (partsOf s′)) ek x in
-      let y₂ = subst (λ (v : Tally). Taken (windowCount (partsOf s)) n r (x₀ .speed) v (partsOf s) (partsOf s′)) (eu ∙ ap (λ (v : Tally). added v x₀) (low .same h)) y₁ in
-      let y₃ = subst (λ (w : Sample). Taken (windowCount (partsOf s)) n r (w .speed) (added (tallyFrom (tallyIn (partsOf s))) w) (partsOf s) (partsOf s′)) ex y₂ in
+      let y₁ = subst (λ (m : ℕ). Taken m n r x₀ u (partsOf s) (partsOf s′)) ek x in
+      let y₂ = subst (λ (v : Tally). Taken (windowCount (partsOf s)) n r x₀ v (partsOf s) (partsOf s′)) (eu ∙ ap (λ (v : Tally). added v x₀) (low .same h)) y₁ in
+      let y₃ = subst (λ (w : Sample). Taken (windowCount (partsOf s)) n r w (added (tallyFrom (tallyIn (partsOf s))) w) (partsOf s) (partsOf s′)) ex y₂ in
       (y₃, λ l. sym f ∙ c l);
   unsound = λ j e. absurd (number-fine z j e);
   unjudged = λ v e. let w : _≡_ {A = ℕ} 0 1 = cc in absurd (omega arith);

@@ -7,28 +7,29 @@ use native.Mathlib.Omega.{arith}
 use lib.IntN.{ℤ}
 use lib.ListN.{length}
 use Rattle.model.specs.declared.Sample.{Sample}
-use Rattle.model.specs.declared.Speed.{Speed}
 use Rattle.model.specs.declared.Tally.{Tally}
 use Rattle.model.specs.declared.Verdict.{Verdict}
 use Rattle.model.specs.Records.{recordLength, maxSamples, sampleOf, inRange}
 use Rattle.model.specs.Tallies.{tallyBytes, tallyFrom}
 use Rattle.model.specs.Trip.{Trip, Answer, number, judged, refused}
 use Rattle.power.specs.Speeds.{Appended}
+use Rattle.altitudes.specs.Ends.{Kept}
 use Rattle.tally.specs.Add.{added}
 use Rattle.tally.specs.Sound.{Sound}
 use Rattle.window.specs.Sweep.{Stepped}
-use Rattle.area.specs.Layout.{areaLen, Parts, partsOf, sampleCount, closedMark, windowCount, formatMark, tallyIn, speedsIn, slotsIn}
+use Rattle.area.specs.Layout.{areaLen, Parts, partsOf, sampleCount, closedMark, windowCount, formatMark, tallyIn, altitudesIn, speedsIn, slotsIn}
 use Rattle.area.specs.Stands.{damaged, Stands}
 use Rattle.area_windows.specs.Effects.{CountedMoves}
 
--- the sample of second n is taken: the tally, the windows, the speeds and the number of samples are new
-pub record Taken (k n : ℕ) (r : List ℕ) (v : Speed) (t : Tally) (p q : Parts) : Type 0 where
+-- the sample x of second n is taken: the tally, the windows, the speeds, the altitudes and the number of samples are new
+pub record Taken (k n : ℕ) (r : List ℕ) (x : Sample) (t : Tally) (p q : Parts) : Type 0 where
   pub mark : closedMark q ≡ closedMark p
   pub windows : windowCount q ≡ windowCount p
   pub format : formatMark q ≡ formatMark p
   pub tally : tallyIn q ≡ tallyBytes t
   pub samples : sampleCount q ≡ n + 1
-  pub added : Appended n v (speedsIn p) (speedsIn q)
+  pub added : Appended n (x .speed) (speedsIn p) (speedsIn q)
+  pub altitudes : Kept n (x .altitude) (altitudesIn p) (altitudesIn q)
   pub stepped : Stepped k n r (slotsIn p) (slotsIn q)
 
 -- what is known once the refusals before it are not given: s is the sample of the record r, and its turn, n, has come
@@ -45,7 +46,7 @@ pub record Taking (area r : List ℕ) (s : Sample) (n : ℕ) : Type 0 where
 pub record Accepts (r : List ℕ) (n : ℕ) (s : List ℕ) (a : Answer) (s′ : List ℕ) : Type 0 where
   pub taken :
       (z : ℤ) → a ≡ number z → Sound (tallyFrom (tallyIn (partsOf s)))
-      → Taken (windowCount (partsOf s)) n r (sampleOf r .speed) (added (tallyFrom (tallyIn (partsOf s))) (sampleOf r)) (partsOf s) (partsOf s′) × CountedMoves (partsOf s′) z
+      → Taken (windowCount (partsOf s)) n r (sampleOf r) (added (tallyFrom (tallyIn (partsOf s))) (sampleOf r)) (partsOf s) (partsOf s′) × CountedMoves (partsOf s′) z
   pub unsound : (k : ℕ) → a ≡ refused k → (s′ ≡ s) × ((k ≡ damaged) × ((t : Trip) → Stands s t → ⊥))
   pub unjudged : (v : Verdict) → a ≡ judged v → ⊥
 

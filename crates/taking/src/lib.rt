@@ -4,21 +4,21 @@ use area::DAMAGED;
 use model::Answer;
 use model::MAX_WINDOWS;
 use model::Sample;
-use model::Speed;
 use model::Tally;
 ghost use Rattle.model.specs.Answers.{answerOf};
 ghost use Rattle.area_windows.specs.Effects.{Stepping};
 ghost use Rattle.area.specs.Layout.{partsOf};
 ghost use Rattle.taking.specs.Effects.{Taken, Taking, Accepts};
 
-// The sample of second n, of this record and speed, goes into every part of the area; t is the tally with it.
-fn store(area: &mut [u8], record: &[u8], v: Speed, n: u32, k: u32, t: Tally)
+// The sample of second n and its record go into every part of the area; t is the tally with it.
+fn store(area: &mut [u8], record: &[u8], s: Sample, n: u32, k: u32, t: Tally)
     requires { ⌜ Stepping (now area) k n (now «record») ⌝ }
-    ensures { λ _. ⌜ Taken k n (now («record» .entry)) v t (partsOf (now (area .entry))) (partsOf (now (area .exit))) ⌝ }
+    ensures { λ _. ⌜ Taken k n (now («record» .entry)) s t (partsOf (now (area .entry))) (partsOf (now (area .exit))) ⌝ }
 {
     area::write_tally(area, t);
     area_windows::step_windows(area, k as usize, n as u16, record);
-    area::append_speed(area, n as usize, v);
+    area::append_speed(area, n as usize, s.speed);
+    area::keep_altitude(area, n as usize, s.altitude);
     area::set_samples(area, n + 1);
 }
 
@@ -32,6 +32,6 @@ pub fn take(area: &mut [u8], record: &[u8], s: Sample, n: u32) -> Answer
         return Answer::Refused(DAMAGED);
     }
     let t = area::low_tally(area);
-    store(area, record, s.speed, n, k, tally::add(t, s));
+    store(area, record, s, n, k, tally::add(t, s));
     Answer::Number(area_windows::moves(area))
 }

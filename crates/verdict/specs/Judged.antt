@@ -1,5 +1,5 @@
--- What is worked out from a tally and the stored speeds is the verdict of the samples that they are of.
---     brokenBy       all rules, from their two parts
+-- What is worked out from a tally, the stored speeds and the first and last altitude is the verdict of the samples that they are of.
+--     brokenBy       all rules, from their three parts
 --     Sought         the search for the lowest broken rule
 --     verdict-is     the verdict
 -- Assumes nothing.
@@ -16,21 +16,23 @@ use Rattle.model.specs.declared.Sample.{Sample}
 use Rattle.model.specs.declared.Tally.{Tally}
 use Rattle.model.specs.declared.Verdict.{Verdict}
 use Rattle.model.specs.Records.{units}
-use Rattle.model.specs.Rules.{speed, rules}
+use Rattle.model.specs.Rules.{speed, endsApart, rules}
 use Rattle.model.specs.Tallies.{tallyOf}
 use Rattle.model.specs.Verdicts.{broken, mask, exceeded, exceedsLimit, finding, verdictOf}
 use Rattle.laws.specs.Lists.{drop-past}
 use Rattle.power.specs.Counts.{limitsOf, countsOf}
 use Rattle.power.specs.Dynamics.{dynamicsRules, firstDynamics, dynamicsCount, dynamics-rules}
 use Rattle.rule.specs.TallyRules.{distanceOf, tallyRules, tally-rules, exceeded-is}
+use Rattle.altitudes.specs.declared.Ends.{Ends}
+use Rattle.altitudes.specs.Ends.{EndsOf, endsRule, ends-rule}
 
 -- "a 32-bit mask"
 abbrev pub maskBits : ℕ
 maskBits = 32
 
--- the rules that are broken, by a tally and the first n speeds
-unfoldable pub brokenBy : Tally → List ℕ → ℕ → List Bool
-brokenBy t vs n = tallyRules n t ++ dynamicsRules (countsOf (limitsOf t) vs n)
+-- the rules that are broken, by a tally, the first n speeds and the altitudes of the first and the last sample
+unfoldable pub brokenBy : Tally → List ℕ → ℕ → Ends → List Bool
+brokenBy t vs n e = tallyRules n t ++ (dynamicsRules (countsOf (limitsOf t) vs n) ++ (endsRule n e ∷ []))
 
 -- The search for the lowest broken rule. After k turns m is the mask of the rules from k on, and the finding is that of the rules from k on.
 pub record Sought (broken : ℕ) (over : Bool) (m k : ℕ) : Type 0 where
@@ -75,30 +77,32 @@ module _ {broken : ℕ} {over : Bool} {m k : ℕ} (s : Sought broken over m k) w
   unfolding finding
   sought-none h bs l e = sym (s .found bs e ∙ ap (λ (x : List Bool). finding k x over) (drop-past bs k (omega arith)))
 
--- no rule stands behind those of the walk
-none-behind : (ss : List Sample) → take dynamicsCount (drop firstDynamics (broken ss)) ≡ drop firstDynamics (broken ss)
+-- the rule behind those of the walk
+behind : (ss : List Sample) → drop dynamicsCount (drop firstDynamics (broken ss)) ≡ endsApart ss ∷ []
 unfolding broken rules
-none-behind ss = refl
+behind ss = refl
 
 -- the rules of the samples
-broken-is : (ss : List Sample) → brokenBy (tallyOf ss) (map speed ss) (length ss) ≡ broken ss
+broken-is : (ss : List Sample) (e : Ends) → EndsOf ss e → brokenBy (tallyOf ss) (map speed ss) (length ss) e ≡ broken ss
 unfolding brokenBy
-broken-is ss = rw (tally-rules ss, dynamics-rules ss, none-behind ss) (take-append-drop firstDynamics (broken ss))
+broken-is ss e h =
+    rw (tally-rules ss, dynamics-rules ss, ends-rule ss e h, ← behind ss, take-append-drop dynamicsCount (drop firstDynamics (broken ss)))
+    (take-append-drop firstDynamics (broken ss))
 
 -- the verdict, by what the code worked out
-module _ (ss : List Sample) (t : Tally) (n : ℕ) (vs : List ℕ) (a : t ≡ tallyOf ss) (b : map speed ss ≡ vs) (c : length vs ≡ n) where
-  rules-are : brokenBy t vs n ≡ broken ss
-  rules-are = rw (← c, ← b, a, length-map) (broken-is ss)
+module _ (ss : List Sample) (t : Tally) (n : ℕ) (vs : List ℕ) (e : Ends) (a : t ≡ tallyOf ss) (b : map speed ss ≡ vs) (c : length vs ≡ n) (d : EndsOf ss e) where
+  rules-are : brokenBy t vs n e ≡ broken ss
+  rules-are = rw (← c, ← b, a, length-map) (broken-is ss e d)
 
-  few : length (brokenBy t vs n) ≤ maskBits
+  few : length (brokenBy t vs n e) ≤ maskBits
   unfolding brokenBy tallyRules dynamicsRules
   few = omega arith
 
-  pub verdict-is : (v : Verdict) → v .broken ≡ mask (brokenBy t vs n) → v .exceeded ≡ exceedsLimit (t .nox) (units (distanceOf t))
+  pub verdict-is : (v : Verdict) → v .broken ≡ mask (brokenBy t vs n e) → v .exceeded ≡ exceedsLimit (t .nox) (units (distanceOf t))
       → ((bs : List Bool) → length bs ≤ maskBits → v .broken ≡ mask bs → v .finding ≡ finding 0 bs (v .exceeded)) → v ≡ verdictOf ss
   unfolding verdictOf
-  verdict-is v e f g =
+  verdict-is v m f g =
       let over : v .exceeded ≡ exceeded ss = f ∙ rw a (exceeded-is ss) in
-      let first : v .finding ≡ finding 0 (broken ss) (exceeded ss) = g (brokenBy t vs n) few e ∙ ap₂ (finding 0) rules-are over in
-      let bits : v .broken ≡ mask (broken ss) = e ∙ ap mask rules-are in
+      let first : v .finding ≡ finding 0 (broken ss) (exceeded ss) = g (brokenBy t vs n e) few m ∙ ap₂ (finding 0) rules-are over in
+      let bits : v .broken ≡ mask (broken ss) = m ∙ ap mask rules-are in
       rw (← first, ← over, ← bits)

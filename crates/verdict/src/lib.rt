@@ -12,7 +12,9 @@ ghost use Rattle.model.specs.Verdicts.{mask, finding as findingOf, verdictOf};
 ghost use Rattle.limits.specs.Bounds.{BoundedTally};
 ghost use Rattle.tally.specs.Sound.{Sound};
 ghost use Rattle.power.specs.Speeds.{speedsOf, Stored};
+ghost use Rattle.altitudes.specs.Ends.{EndsOf};
 ghost use Rattle.verdict.specs.Judged.{maskBits, brokenBy};
+use altitudes::Ends;
 use model::Finding;
 use model::Tally;
 use model::Verdict;
@@ -20,12 +22,17 @@ use model::Verdict;
 // The bit of rule 15, the first that the walk over the speeds decides.
 const DYNAMICS: u32 = 32768;
 
+// The bit of rule 21, behind the six of the walk.
+const ENDS: u32 = 64 * DYNAMICS;
+
 // The mask of all rules, bit k for rule k.
-fn broken(t: Tally, speeds: &[u8], n: usize) -> u32
+fn broken(t: Tally, speeds: &[u8], n: usize, e: Ends) -> u32
     requires { ⌜ (2 * n ≤ length (now speeds)) × ((n ≤ maxSamples) × BoundedTally t) ⌝ }
-    ensures { λ r. ⌜ r ≡ mask (brokenBy t (speedsOf (now (speeds .entry)) n) n) ⌝ }
+    ensures { λ r. ⌜ r ≡ mask (brokenBy t (speedsOf (now (speeds .entry)) n) n e) ⌝ }
 {
-    rule::tally_rules(n, t) + DYNAMICS * power::dynamics_rules(speeds, n, t)
+    rule::tally_rules(n, t)
+        + DYNAMICS * power::dynamics_rules(speeds, n, t)
+        + ENDS * model::bit(altitudes::ends_rule(n, e))
 }
 
 // The lowest broken rule; else exceeded; else clean.
@@ -58,12 +65,12 @@ pub fn finding_code(f: Finding) -> u32
     }
 }
 
-// The verdict on the samples with this tally and these first n speeds.
-pub fn verdict(t: Tally, speeds: &[u8], n: usize) -> Verdict
+// The verdict on the samples with this tally, these first n speeds and these altitudes of the first and the last of them.
+pub fn verdict(t: Tally, speeds: &[u8], n: usize, e: Ends) -> Verdict
     requires { ⌜ (2 * n ≤ length (now speeds)) × ((n ≤ maxSamples) × Sound t) ⌝ }
-    ensures { λ r. ⌜ ((ss : List Sample) → t ≡ tallyOf ss → Stored (now (speeds .entry)) n ss → r ≡ verdictOf ss) ⌝ }
+    ensures { λ r. ⌜ ((ss : List Sample) → t ≡ tallyOf ss → Stored (now (speeds .entry)) n ss → EndsOf ss e → r ≡ verdictOf ss) ⌝ }
 {
-    let b = broken(t, speeds, n);
+    let b = broken(t, speeds, n, e);
     let over = rule::exceeded(t);
     Verdict {
         broken: b,

@@ -16,11 +16,11 @@ exceeded-requires : tie.Need-exceeded-requires
 exceeded-requires c κs = let s = c .before .before in tally-bounded (s .args .t) (s .pre .1 .1)
 
 returns : tie.Need-returns
-returns c ss a b =
+returns c ss a b d =
     let k = c .before .before in
     let x = k .before .before .args in
     let part = now (x .speeds) in
-    verdict-is ss (x .t) (x .n) (speedsOf part (x .n)) a b (cells-length 2 leVal part (x .n))
+    verdict-is ss (x .t) (x .n) (speedsOf part (x .n)) (x .e) a b (cells-length 2 leVal part (x .n)) d
     (record { broken = k .broken .result; exceeded = c .before .exceeded .result; finding = c .finding .result })
     (k .broken .ensures)
     (c .before .exceeded .ensures)

@@ -99,10 +99,11 @@ static inline int target_speed(int done)
 }
 
 /* A drive whose speed goes towards a target by at most 12 tenths of km/h a second, with some unrest, and whose road falls by a metre
- * a minute: its first half hour keeps rule 21, the whole breaks it. */
+ * a minute: its first half hour keeps rule 21, the whole breaks it. It is above 700 m at first and at 303.0 K or more in the last half hour:
+ * the whole is not exceeded, but would be if extended samples weighed in full. */
 static inline void make_drive(void)
 {
-    int speed = 0, target = 0, altitude = 120;
+    int speed = 0, target = 0, altitude = 760;
     srand(1);
     for (int i = 0; i < MAX_DRIVE; i++) {
         uint8_t *p = drive + 16 * i;
@@ -117,9 +118,9 @@ static inline void make_drive(void)
         put_u16(p, (uint32_t)i);
         put_u16(p + 2, (uint32_t)speed);
         put_u16(p + 4, (uint32_t)altitude);
-        put_u16(p + 6, 2900u + (uint32_t)rand() % 40);
+        put_u16(p + 6, (i < 5400 ? 2900u : 3030u) + (uint32_t)rand() % 40);
         put_u16(p + 8, 100u + (uint32_t)speed + (uint32_t)(change > 0 ? 40 * change : 0));
-        put_u16(p + 10, (uint32_t)(rand() % 60) + (uint32_t)(change > 0 ? 5 * change : 0));
+        put_u16(p + 10, (uint32_t)(rand() % 50) + (uint32_t)(change > 0 ? 4 * change : 0));
         put_u16(p + 12, 500u + 3u * (uint32_t)speed + (uint32_t)(rand() % 300));
     }
 }

@@ -26,11 +26,13 @@ int main(void)
 {
     srand(1);
     for (int i = 0; i < SAMPLES; i++) {
-        unsigned v = (unsigned)rand() % 1500, t = 2800 + (unsigned)rand() % 200, f = (unsigned)rand() % 3000, x = (unsigned)rand() % 300;
+        /* temperature and altitude go through every edge of the extended conditions, one at a time */
+        unsigned v = (unsigned)rand() % 1500, f = (unsigned)rand() % 3000, x = (unsigned)rand() % 300;
+        unsigned t = 2650 + (unsigned)i / 16, a = (unsigned)i / 2 % 1400;
         uint8_t *p = block + 16 * i;
         p[0] = (uint8_t)i, p[1] = (uint8_t)(i / 256);
         p[2] = (uint8_t)v, p[3] = (uint8_t)(v / 256);
-        p[4] = (uint8_t)(rand() % 200);
+        p[4] = (uint8_t)a, p[5] = (uint8_t)(a / 256);
         p[6] = (uint8_t)t, p[7] = (uint8_t)(t / 256);
         p[8] = (uint8_t)f, p[9] = (uint8_t)(f / 256);
         p[10] = (uint8_t)x, p[11] = (uint8_t)(x / 256);

@@ -16,9 +16,9 @@ static uint64_t number(const uint8_t *tally, int k)
 
 int main(void)
 {
-    /* two samples at 50.0 and 100.1 km/h, and one at 130.0 km/h: 100 m up, 293.1 K, no emissions */
-    const uint8_t first[32] = {0, 0, 244, 1, 100, 0, 115, 11, [16] = 1, 0, 233, 3, 100, 0, 115, 11};
-    const uint8_t second[16] = {0, 0, 20, 5, 100, 0, 115, 11};
+    /* two samples at 50.0 and 100.1 km/h and 293.1 K, and one at 130.0 km/h and 304.1 K, which is extended: 100 m up, 100.0 kg/h, 20 ppm */
+    const uint8_t first[32] = {0, 0, 244, 1, 100, 0, 115, 11, 232, 3, 20, [16] = 1, 0, 233, 3, 100, 0, 115, 11, 232, 3, 20};
+    const uint8_t second[16] = {0, 0, 20, 5, 100, 0, 225, 11, 232, 3, 20};
     uint8_t a[RDE_TALLY_LEN], b[RDE_TALLY_LEN], both[RDE_TALLY_LEN];
     if (rde_tally(first, sizeof first, a, sizeof a).refusal != RDE_OK ||
         rde_tally(second, sizeof second, b, sizeof b).refusal != RDE_OK ||
@@ -26,5 +26,6 @@ int main(void)
         return 1;
     printf("samples: urban %" PRIu64 ", rural %" PRIu64 ", motorway %" PRIu64 "\n", number(both, 0), number(both, 1), number(both, 2));
     printf("motorway distance: %" PRIu64 " units of 1/36000 km\n", number(both, 5));
+    printf("channel 6: %" PRIu64 ", of it %" PRIu64 " in extended conditions\n", number(both, 12), number(both, 13));
     return 0;
 }

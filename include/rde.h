@@ -25,9 +25,9 @@
  *     rde_sample    304
  *     rde_close     8
  *     rde_read      8
- *     rde_verdict   488
+ *     rde_verdict   568
  *     rde_tally     144
- *     rde_join      440
+ *     rde_join      696
  */
 #ifndef RDE_H
 #define RDE_H
@@ -43,8 +43,14 @@ extern "C" {
  * programs are compiled again, and areas, records and tallies whose layout has changed are used no more. An area whose format has
  * changed has another mark, and is refused with RDE_DAMAGED.
  *     2  rule 21: bit 21 of broken, 21 as a word, RDE_RULES 22; rde_verdict takes 488 bytes of stack, 472 before. The area has another
- *        format: end and judge a trip before the change, since its area is refused then. RDE_AREA_LEN, records and tallies stay. */
-#define RDE_VERSION 2
+ *        format: end and judge a trip before the change, since its area is refused then. RDE_AREA_LEN, records and tallies stay.
+ *     3  NOx in extended conditions weighs five eighths: a trip that was exceeded may now be within the limit, with the word
+ *        RDE_CLEAN for RDE_EXCEEDED; never the other way round, and the mask stays.
+ *        A tally has a fourteenth number, extended U, and RDE_TALLY_LEN is 112: a tally of 104 bytes is refused with RDE_TALLY, its
+ *        block is tallied again; an output of 104 bytes is refused with RDE_LENGTH. The area has another format: end and judge a trip
+ *        before the change, since its area is refused then. rde_verdict takes 568 bytes of stack, 488 before, rde_join 696, 440
+ *        before. RDE_AREA_LEN and records stay. */
+#define RDE_VERSION 3
 
 /* What a call answers: refusal 0 means accepted, with the value; any other refusal has value 0 and has changed no byte. */
 typedef struct {
@@ -104,7 +110,7 @@ enum {
 
 #define RDE_AREA_LEN 63532  /* bytes of the state area; rde_area_len() gives the same */
 #define RDE_RECORD_LEN 16   /* bytes of a sample record and of a window record */
-#define RDE_TALLY_LEN 104   /* bytes of a tally: thirteen u64 */
+#define RDE_TALLY_LEN 112   /* bytes of a tally: fourteen u64 */
 #define RDE_MAX_SAMPLES 7201
 #define RDE_MAX_WINDOWS 16
 
@@ -146,7 +152,12 @@ enum {
  *     72  u64   samples above 160.0 km/h                         n
  *     80  u64   samples below 266.0 K or above 308.0 K           n
  *     88  u64   samples above 1300 m                             n
- *     96  u64   sum of channel 6                                 100000000 x n */
+ *     96  u64   U, the sum of channel 6, 0.1 kg/h x ppm          100000000 x n
+ *    104  u64   extended U, the same of the extended samples     U
+ * A sample is extended, taken in what the regulation calls extended conditions, at 266.0 to 272.9 K, at 303.1 to 308.0 K, ends
+ * included, or above 700 m and up to 1300 m: 700 m is not extended, 1300 m is. One condition is enough, whatever the other value is; a
+ * sample that meets two counts once. U holds every sample, the extended ones too; other U, that of the samples which are not extended,
+ * is U less extended U. */
 
 /* The rules of a verdict. n: the trip's samples. Of a class: N its samples, S its distance. D: the three distances together. V: a
  * sample's speed. A: the next sample's speed less the previous one's, a missing one being 0; a sample is accelerating if A is 8 or
@@ -167,7 +178,8 @@ enum {
  *              10000 x P95 x N > 2592 x (136 x S + 144400 x N); else 100000 x P95 x N > 2592 x (742 x S + 1896600 x N)
  *     21       the altitudes of the first and the last sample differ by 101 m or more, up or down; kept if there is no sample. In a
  *              verdict before the end the last sample is the latest one taken: the rule may be broken on the way and kept at the end
- * Exceeded, told also where rules are broken: D > 0 and 1586 x (sum of channel 6) > 80000 x D, which is above 80 mg/km. */
+ * Exceeded, told also where rules are broken: D > 0 and 1586 x (8 x other U + 5 x extended U) > 640000 x D, U and extended U over the
+ * trip's samples, as in a tally: above 80 mg/km, where NOx of extended samples is divided by 1.6. */
 
 /* The rules' names in words: const char *const names[RDE_RULES] = RDE_RULE_NAMES; */
 #define RDE_RULES 22

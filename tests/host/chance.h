@@ -55,7 +55,7 @@ typedef struct {
 } values;
 
 /* How a list's values are drawn. */
-enum { TINY, EQUAL, NEAR_EDGES, WIDE, DRIVE, CLIMBS, STYLES };
+enum { TINY, EQUAL, NEAR_EDGES, WIDE, DRIVE, CLIMBS, BANDS, STYLES };
 
 static inline values tiny_values(void)
 {
@@ -68,6 +68,11 @@ static inline values wide_values(void)
                     between(0, 100000)};
 }
 
+#define ONE_OF(numbers) (numbers)[below(sizeof(numbers) / sizeof *(numbers))]
+
+/* Both sides of each edge of the extended conditions; those of rules 13 and 14 are among them. */
+static const int32_t band_temperatures[] = {2659, 2660, 2729, 2730, 3030, 3031, 3080, 3081}, band_altitudes[] = {700, 701, 1300, 1301};
+
 static inline int32_t near_edge(int32_t low, int32_t high)
 {
     return once_in(2) ? low + between(0, 1) : high - between(0, 1);
@@ -79,12 +84,21 @@ static inline values edge_values(void)
     values v = {near_edge(0, 3000), near_edge(-500, 5000), near_edge(2000, 3500), near_edge(0, 20000), near_edge(0, 5000),
                 near_edge(0, 100000)};
     if (once_in(2))
-        v.speed = speeds[below(sizeof speeds / sizeof *speeds)];
+        v.speed = ONE_OF(speeds);
     if (once_in(2))
-        v.altitude = between(1299, 1301);
+        v.altitude = ONE_OF(band_altitudes);
     if (once_in(2))
-        v.temperature = once_in(2) ? between(2659, 2661) : between(3079, 3081);
+        v.temperature = ONE_OF(band_temperatures);
     return v;
+}
+
+/* At an edge of a band or in none, NOx about its limits: at this speed and flow 50 is kept and 51 exceeded, 80 and 81 where a sample is
+ * extended. */
+static inline values band_values(void)
+{
+    static const int32_t amounts[] = {30, 50, 51, 65, 80, 81};
+    return (values){once_in(6) ? 0 : 500, once_in(2) ? ONE_OF(band_altitudes) : 100, once_in(2) ? ONE_OF(band_temperatures) : 2931, 500,
+                    ONE_OF(amounts), 0};
 }
 
 /* A step from the values before, as on a road. */
@@ -140,6 +154,8 @@ static inline values next_values(const trip *t)
         return edge_values();
     if (t->style == CLIMBS)
         return climb_values(t);
+    if (t->style == BANDS)
+        return band_values();
     return t->style == DRIVE ? drive_values(&t->before) : wide_values();
 }
 

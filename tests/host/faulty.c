@@ -57,25 +57,69 @@ enum {
     HEIGHT_REFUSED_FIRST,  /* a refused sample's altitude becomes the first of an empty trip */
     HEIGHT_EMPTY,          /* an empty trip is judged by the altitudes before it */
     HEIGHT_CLEAR,          /* clear keeps the first altitude */
+    NOX_FULL,              /* extended U weighs in full */
+    NOX_SWAPPED,           /* extended U weighs 8 and other U 5 */
+    NOX_ROUNDED,           /* five eighths of a sample are rounded down */
+    NOX_AT_LIMIT,          /* the limit itself is exceeded */
+    NOX_STILL,             /* no distance is exceeded too */
+    NOX_CLEAR,             /* clear keeps extended U */
+    NOX_REFUSED,           /* a refused sample's channel 6 is added */
+    NOX_REFUSED_EXTENDED,  /* and to extended U alone */
+    BAND_COLD_FROM_LESS,   /* from here on, which samples are extended, in verdicts and in tallies: from 2659 */
+    BAND_COLD_FROM_MORE,   /* from 2661 */
+    BAND_COLD_TO_LESS,     /* to 2728 */
+    BAND_COLD_TO_MORE,     /* to 2730 */
+    BAND_WARM_FROM_LESS,   /* from 3030 */
+    BAND_WARM_FROM_MORE,   /* from 3032 */
+    BAND_WARM_TO_LESS,     /* to 3079 */
+    BAND_WARM_TO_MORE,     /* to 3081 */
+    BAND_HIGH_FROM_LESS,   /* from 700 m */
+    BAND_HIGH_FROM_MORE,   /* from 702 m */
+    BAND_HIGH_TO_LESS,     /* to 1299 m */
+    BAND_HIGH_TO_MORE,     /* to 1301 m */
+    BAND_NO_COLD,          /* never by cold */
+    BAND_NO_WARM,          /* never by heat */
+    BAND_NO_HIGH,          /* never by height */
+    BAND_BOTH_ALONE,       /* only by two conditions at once */
+    BAND_ONE_ALONE,        /* not by two at once */
+    BAND_RULES,            /* not where the sample breaks rule 13 or 14 */
+    BAND_TWICE,            /* by two at once twice */
     TALLY_WRITES,          /* a refused tally writes its output */
     TALLY_SECOND,          /* a block whose first second is not 0 is refused */
     TALLY_FULL,            /* a block of 7202 samples is taken */
     TALLY_OVERREAD,        /* a byte behind the block is read */
     TALLY_VALUE,           /* a tally answers its samples */
     TALLY_LAST,            /* the last field is one more */
+    TALLY_EXTENDED_NONE,   /* extended U is 0 */
+    TALLY_EXTENDED_ALL,    /* extended U is U */
+    TALLY_NOX_OTHER,       /* U is other U: extended U is taken from it */
+    TALLY_BEFORE,          /* an output without room for the last field is taken */
     JOIN_UNTESTED,         /* an ill-formed tally is joined */
     JOIN_FULL,             /* 7201 samples together are refused */
     JOIN_NUMBER,           /* 12 is told as 13 */
+    JOIN_LENGTH_LATE,      /* 11 is given after 12 and 13 */
+    JOIN_TALLY_LATE,       /* 12 is given after 13 */
     JOIN_LAST,             /* the last field is one more */
+    JOIN_EXTENDED_FIRST,   /* the last field is the first tally's */
+    JOIN_EXTENDED_EQUAL,   /* extended U at U is refused */
+    JOIN_ABOVE_FIRST,      /* extended U above U is taken in the first tally */
+    JOIN_ABOVE_SECOND,     /* and in the second */
+    JOIN_BEFORE,           /* tallies without the last field are joined */
+    JOIN_OUTPUT_BEFORE,    /* an output without room for the last field is taken */
     JOIN_OVERWRITE         /* a byte behind the output is written */
 };
 
+static int chosen(void)
+{
+    static int fault = -1;
+    if (fault < 0)
+        fault = getenv("FAULT") == NULL ? NONE : atoi(getenv("FAULT"));
+    return fault;
+}
+
 static int on(int fault)
 {
-    static int chosen = -1;
-    if (chosen < 0)
-        chosen = getenv("FAULT") == NULL ? NONE : atoi(getenv("FAULT"));
-    return chosen == fault;
+    return chosen() == fault;
 }
 
 size_t __real_rde_area_len(void);
@@ -200,6 +244,86 @@ static rde_verdict_answer heights_told(rde_verdict_answer v)
     return v;
 }
 
+/* --- The NOx limit --- */
+
+static int within(int x, int low, int high)
+{
+    return low <= x && x <= high;
+}
+
+/* The end of a band, the k-th of six, as its two faults have it. */
+static int band_end(int k)
+{
+    static const int ends[] = {2660, 2729, 3031, 3080, 701, 1300};
+    return ends[k] - on(BAND_COLD_FROM_LESS + 2 * k) + on(BAND_COLD_FROM_MORE + 2 * k);
+}
+
+/* How often a sample's channel 6 is in extended U. */
+static int extended_times(const uint8_t *record)
+{
+    int altitude = (int16_t)u16_at(record + 4), temperature = (int)u16_at(record + 6);
+    int cold = within(temperature, band_end(0), band_end(1)) && !on(BAND_NO_COLD);
+    int warm = within(temperature, band_end(2), band_end(3)) && !on(BAND_NO_WARM);
+    int high = within(altitude, band_end(4), band_end(5)) && !on(BAND_NO_HIGH);
+    int met = cold + warm + high;
+    if (on(BAND_RULES) && (!within(temperature, 2660, 3080) || altitude > 1300))
+        return 0;
+    if (on(BAND_BOTH_ALONE))
+        return met == 2;
+    if (on(BAND_ONE_ALONE))
+        return met == 1;
+    return on(BAND_TWICE) ? met : met > 0;
+}
+
+static int64_t channel_6(const uint8_t *record)
+{
+    return (int64_t)u16_at(record + 8) * u16_at(record + 10);
+}
+
+/* The sums as each fault keeps them, of the area cleared last, as the altitudes are. */
+static struct {
+    int64_t distance, all, extended;
+    int64_t rounded; /* eight times U, of extended samples five eighths rounded down */
+} sums;
+
+static void sums_clear(void)
+{
+    int64_t kept = on(NOX_CLEAR) ? sums.extended : 0;
+    memset(&sums, 0, sizeof sums);
+    sums.extended = kept;
+}
+
+static void sums_sample(const uint8_t *record, int accepted)
+{
+    int64_t nox = channel_6(record), times = extended_times(record);
+    if (accepted)
+        sums.distance += u16_at(record + 2);
+    if (accepted || on(NOX_REFUSED)) {
+        sums.all += nox;
+        sums.rounded += 8 * (times > 0 ? 5 * nox / 8 : nox);
+    }
+    if (accepted || on(NOX_REFUSED) || on(NOX_REFUSED_EXTENDED))
+        sums.extended += times * nox;
+}
+
+/* The verdict with the exceeded mark as one of its faults has it. */
+static rde_verdict_answer sums_told(rde_verdict_answer v)
+{
+    int64_t other = sums.all - sums.extended, weighted = 8 * other + 5 * sums.extended;
+    if (on(NOX_FULL))
+        weighted = 8 * sums.all;
+    if (on(NOX_SWAPPED))
+        weighted = 5 * other + 8 * sums.extended;
+    if (on(NOX_ROUNDED))
+        weighted = sums.rounded;
+    if (v.refusal != 0)
+        return v;
+    v.exceeded = 1586 * weighted + on(NOX_AT_LIMIT) > 640000 * sums.distance && (sums.distance > 0 || on(NOX_STILL));
+    if (v.broken == 0)
+        v.word = v.exceeded ? RDE_EXCEEDED : RDE_CLEAN;
+    return v;
+}
+
 /* --- The six calls --- */
 
 size_t __wrap_rde_area_len(void)
@@ -213,8 +337,10 @@ rde_answer __wrap_rde_clear(uint8_t *area, size_t area_len)
     rde_answer a = __real_rde_clear(area, length_of(area, area_len));
     if (mark)
         __real_rde_close(area, area_len);
-    if (a.refusal == 0)
+    if (a.refusal == 0) {
         heights_clear();
+        sums_clear();
+    }
     if (on(CLEAR_VALUE) && a.refusal == 0)
         a.value = 1;
     return a;
@@ -270,8 +396,10 @@ rde_answer __wrap_rde_sample(uint8_t *area, size_t area_len, const uint8_t *reco
         (on(RECORD_UNDERREAD) && *(const volatile uint8_t *)(record - 1) == 7))
         return refused(RDE_DAMAGED);
     a = __real_rde_sample(area, length_of(area, area_len), record, record_len);
-    if (whole)
+    if (whole) {
         heights_sample(record, a.refusal == 0);
+        sums_sample(record, a.refusal == 0);
+    }
     if (on(REFUSAL_WRITES) && a.refusal == RDE_RANGE)
         area[60]++;
     if (on(RECORD_WRITES) && a.refusal == 0)
@@ -308,7 +436,7 @@ rde_answer __wrap_rde_read(const uint8_t *area, size_t area_len, uint32_t window
 
 rde_verdict_answer __wrap_rde_verdict(const uint8_t *area, size_t area_len)
 {
-    rde_verdict_answer v = heights_told(__real_rde_verdict(area, area_len));
+    rde_verdict_answer v = heights_told(sums_told(__real_rde_verdict(area, area_len)));
     if (on(UNCLEARED_CLEAN) && v.refusal == RDE_DAMAGED)
         return (rde_verdict_answer){0, 0, 0, RDE_CLEAN};
     if (on(VERDICT_EXCEEDED))
@@ -326,42 +454,136 @@ rde_verdict_answer __wrap_rde_verdict(const uint8_t *area, size_t area_len)
 
 /* --- Tallies --- */
 
+/* Where the last two fields of a tally stand. */
+#define AT_EXTENDED (RDE_TALLY_LEN - 8)
+#define AT_NOX (AT_EXTENDED - 8)
+
+static uint64_t u64_at(const uint8_t *p)
+{
+    uint64_t x;
+    memcpy(&x, p, sizeof x);
+    return x;
+}
+
+static void put_u64(uint8_t *p, uint64_t x)
+{
+    memcpy(p, &x, sizeof x);
+}
+
+/* Extended U of a block, as the fault has it. */
+static uint64_t extended_of(const uint8_t *block, size_t block_len)
+{
+    int64_t sum = 0;
+    for (size_t i = 0; i < block_len; i += RDE_RECORD_LEN)
+        sum += extended_times(block + i) * channel_6(block + i);
+    return (uint64_t)sum;
+}
+
+/* The output of an accepted tally as one of these faults has it. */
+static void tally_told(const uint8_t *block, size_t block_len, uint8_t *out)
+{
+    if (chosen() >= BAND_COLD_FROM_LESS && chosen() <= BAND_TWICE)
+        put_u64(out + AT_EXTENDED, extended_of(block, block_len));
+    if (on(TALLY_EXTENDED_NONE))
+        put_u64(out + AT_EXTENDED, 0);
+    if (on(TALLY_EXTENDED_ALL))
+        put_u64(out + AT_EXTENDED, u64_at(out + AT_NOX));
+    if (on(TALLY_NOX_OTHER))
+        put_u64(out + AT_NOX, u64_at(out + AT_NOX) - u64_at(out + AT_EXTENDED));
+    if (on(TALLY_LAST))
+        out[AT_EXTENDED]++;
+}
+
 rde_answer __wrap_rde_tally(const uint8_t *block, size_t block_len, uint8_t *out, size_t out_len)
 {
     size_t len = on(TALLY_FULL) && block_len == 16 * (RDE_MAX_SAMPLES + 1) ? block_len - 16 : block_len;
+    uint8_t whole[RDE_TALLY_LEN];
     rde_answer a;
     if (on(TALLY_OVERREAD) && *(const volatile uint8_t *)(block + block_len) == 7)
         return refused(RDE_DAMAGED);
     if (on(TALLY_SECOND) && block_len > 1 && out_len == RDE_TALLY_LEN && second_of(block) != 0)
         return refused(RDE_SECOND);
+    if (on(TALLY_BEFORE) && out_len == AT_EXTENDED) {
+        a = __real_rde_tally(block, len, whole, sizeof whole);
+        if (a.refusal == 0)
+            memcpy(out, whole, out_len);
+        return a;
+    }
     a = __real_rde_tally(block, len, out, out_len);
     if (on(TALLY_WRITES) && a.refusal != 0)
         memset(out, 0, out_len);
     if (on(TALLY_VALUE) && a.refusal == 0)
         a.value = (int64_t)(block_len / 16);
-    if (on(TALLY_LAST) && a.refusal == 0)
-        out[RDE_TALLY_LEN - 8]++;
+    if (a.refusal == 0)
+        tally_told(block, len, out);
     return a;
+}
+
+/* A tally as it is taken by a fault: with extended U at most U where `above` is on, or with the last field where it has none. */
+static const uint8_t *taken(const uint8_t *tally, size_t *len, int above, uint8_t *copy)
+{
+    if (above && *len == RDE_TALLY_LEN) {
+        memcpy(copy, tally, *len);
+        if (u64_at(copy + AT_EXTENDED) > u64_at(copy + AT_NOX))
+            memcpy(copy + AT_EXTENDED, copy + AT_NOX, 8);
+        return copy;
+    }
+    if (on(JOIN_BEFORE) && *len == AT_EXTENDED) {
+        memcpy(copy, tally, *len);
+        put_u64(copy + AT_EXTENDED, 0);
+        *len = RDE_TALLY_LEN;
+        return copy;
+    }
+    return tally;
+}
+
+/* Is extended U at U in a joined tally? */
+static int all_extended(const uint8_t *tally)
+{
+    return u64_at(tally + AT_NOX) > 0 && u64_at(tally + AT_EXTENDED) == u64_at(tally + AT_NOX);
+}
+
+/* The output of an accepted join as one of these faults has it. */
+static void join_told(const uint8_t *a, uint8_t *out)
+{
+    if (on(JOIN_EXTENDED_FIRST))
+        memcpy(out + AT_EXTENDED, a + AT_EXTENDED, 8);
+    if (on(JOIN_LAST))
+        out[AT_EXTENDED]++;
+    if (on(JOIN_OVERWRITE))
+        out[RDE_TALLY_LEN]++;
+}
+
+/* A refusal as one of these faults tells it. */
+static rde_answer join_refused(rde_answer j, uint64_t samples)
+{
+    if (j.refusal != RDE_TALLY)
+        return j;
+    if (on(JOIN_UNTESTED))
+        return (rde_answer){0, 0};
+    if (on(JOIN_NUMBER) || (on(JOIN_TALLY_LATE) && samples > RDE_MAX_SAMPLES))
+        return refused(RDE_JOINED);
+    return j;
 }
 
 rde_answer __wrap_rde_join(const uint8_t *a, size_t a_len, const uint8_t *b, size_t b_len, uint8_t *out, size_t out_len)
 {
-    uint8_t before[RDE_TALLY_LEN];
+    uint8_t joined[RDE_TALLY_LEN], first[RDE_TALLY_LEN], second[RDE_TALLY_LEN];
+    uint64_t samples = a_len == RDE_TALLY_LEN && b_len == RDE_TALLY_LEN ? samples_of(a) + samples_of(b) : 0;
     rde_answer j;
-    if (on(JOIN_FULL) && out_len == sizeof before)
-        memcpy(before, out, sizeof before);
-    j = __real_rde_join(a, a_len, b, b_len, out, out_len);
-    if (on(JOIN_FULL) && j.refusal == 0 && samples_of(out) == RDE_MAX_SAMPLES) {
-        memcpy(out, before, sizeof before);
+    a = taken(a, &a_len, on(JOIN_ABOVE_FIRST), first);
+    b = taken(b, &b_len, on(JOIN_ABOVE_SECOND), second);
+    j = __real_rde_join(a, a_len, b, b_len, joined, sizeof joined);
+    if (out_len != RDE_TALLY_LEN && !(on(JOIN_OUTPUT_BEFORE) && out_len == AT_EXTENDED))
+        return on(JOIN_LENGTH_LATE) && j.refusal != 0 ? j : __real_rde_join(a, a_len, b, b_len, out, out_len);
+    if (j.refusal != 0)
+        return join_refused(j, samples);
+    if (on(JOIN_FULL) && samples_of(joined) == RDE_MAX_SAMPLES)
         return refused(RDE_JOINED);
-    }
-    if (on(JOIN_UNTESTED) && j.refusal == RDE_TALLY)
-        return (rde_answer){0, 0};
-    if (on(JOIN_NUMBER) && j.refusal == RDE_TALLY)
-        return refused(RDE_JOINED);
-    if (on(JOIN_LAST) && j.refusal == 0)
-        out[RDE_TALLY_LEN - 8]++;
-    if (on(JOIN_OVERWRITE) && j.refusal == 0)
-        out[RDE_TALLY_LEN]++;
+    if (on(JOIN_EXTENDED_EQUAL) && all_extended(joined))
+        return refused(RDE_TALLY);
+    memcpy(out, joined, out_len);
+    if (out_len == RDE_TALLY_LEN)
+        join_told(a, out);
     return j;
 }

@@ -107,7 +107,8 @@ def small_lists(rng, count):
     names = ('case-a', 'case-b', 'case-i', 'order-closed', 'order-sample',
              'order-after-sample', 'order-17', 'read-numbers', 'edges-altitude',
              'edges-temperature', 'window-faults', 'window-edges', 'height-away-and-back',
-             'height-after-clear', 'height-far-refused', 'height-near-refused')
+             'height-after-clear', 'height-far-refused', 'height-near-refused',
+             *generate.extended_lists())
     lists = [fixed[name] for name in names][:count]
     while len(lists) < count:
         k = len(lists)
@@ -136,8 +137,10 @@ def edge_lists():
 # --- Tallies and reports -----------------------------------------------------
 
 def tally_equations(rng, count):
-    """Blocks of up to six records and joins of random tallies, refusals included."""
-    equations = []
+    """The blocks and joins for extended U; then blocks of up to six records and joins of
+    random tallies, refusals included."""
+    equations = [tally_equation(block, reference.TALLY_LENGTH) for block in generate.band_blocks()]
+    equations += [join_equation(*case) for case in generate.extended_join_cases()]
     while len(equations) < count:
         length = generate.random_out_length(rng)
         if len(equations) % 3 == 0:

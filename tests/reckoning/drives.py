@@ -1,5 +1,5 @@
 """Builders of whole trips for verdicts: random ones, ones on the two sides of
-each rule's edge, and the clean, the exceeded and the downhill drive.
+each rule's edge, and the clean, the exceeded, the downhill and the summer drive.
 
 A drive is a list of reference.Sample with seconds from 0.  Speeds are in tenths
 of km/h; a distance is a sum of speeds over seconds (1/36,000 km).  Random drives,
@@ -143,13 +143,20 @@ def downhill_drive(n=5400, drop=300):
             for s in clean_drive(n)]
 
 
-def with_nox_sum(drive, total):
-    """The drive with its sum of channel 6 made exactly `total`."""
-    samples = [drive[0]._replace(flow=total % 1000, nox=1)]
-    level, more = divmod(total // 1000, len(drive) - 1)
-    for k, sample in enumerate(drive[1:]):
-        samples.append(sample._replace(flow=1000, nox=level + (k < more)))
-    assert sum(reference.channel_value(s, 6) for s in samples) == total
+def summer_drive(n=5400):
+    """The exceeded drive on a hot day, from 302.5 K up to 306.5 K, evenly: it is clean,
+    since it is extended for most of the time."""
+    return [s._replace(temperature=3025 + 40 * s.second // (n - 1)) for s in exceeded_drive(n)]
+
+
+def with_nox_sum(drive, total, chosen):
+    """The drive with the sum of channel 6 over the chosen samples made exactly `total`."""
+    first, *rest = chosen
+    samples = changed(drive, first, flow=total % 1000, nox=1)
+    level, more = divmod(total // 1000, len(rest))
+    for k, place in enumerate(rest):
+        samples[place] = samples[place]._replace(flow=1000, nox=level + (k < more))
+    assert sum(reference.channel_value(samples[k], 6) for k in chosen) == total
     return samples
 
 
@@ -495,6 +502,12 @@ def whole_percentile_edges():
 
 # --- NOx ---------------------------------------------------------------------
 
+def nox_drive(n):
+    """A clean drive of n samples whose D is a multiple of 793, so that its limits are
+    whole numbers."""
+    return drive_of(whole_speeds(n, *(d - d % 793 for d in distance_shares(n))))
+
+
 def nox_edges():
     """80 mg/km exactly (793 x U = 40000 x D) and one unit above."""
     short = drive_of([793, 0], flow=0, nox=0)
@@ -503,12 +516,129 @@ def nox_edges():
     still = drive_of([0] * 3, flow=20000, nox=5000)
     edges.append(Edge('D = 0 with NOx', 'exceeded', still, changed(still, 2, speed=1), False))
     for n in (5400, 7200):
-        urban, rural, motorway = (d - d % 793 for d in distance_shares(n))
-        drive = drive_of(whole_speeds(n, urban, rural, motorway))
-        total = 40000 * (urban + rural + motorway) // 793
+        drive = nox_drive(n)
+        total = 40000 * sum(s.speed for s in drive) // 793
         edges.append(Edge('80 mg/km in %d samples' % n, 'exceeded',
-                          with_nox_sum(drive, total), with_nox_sum(drive, total + 1), True))
+                          with_nox_sum(drive, total, range(n)),
+                          with_nox_sum(drive, total + 1, range(n)), True))
     return edges
+
+
+# --- Extended conditions (R-2) -----------------------------------------------
+
+# The ends of the bands: the field, the last value within and the next one outside.
+BAND_EDGES = [('temperature', 2660, 2659), ('temperature', 2729, 2730),
+              ('temperature', 3031, 3030), ('temperature', 3080, 3081),
+              ('altitude', 701, 700), ('altitude', 1300, 1301)]
+BAND_VALUES = {name: [value for field, *values in BAND_EDGES if field == name
+                      for value in values] for name in ('temperature', 'altitude')}
+OUTSIDE_RULES = {2659: 13, 3081: 13, 1301: 14}    # values that break a rule too
+
+BANDS = {'cold': dict(temperature=2700), 'warm': dict(temperature=3050),
+         'high': dict(altitude=1000)}
+
+# Temperature and altitude of a sample that is extended by one of them, and of one that
+# is not: beside values that break rule 13 or 14, and beside the ends of the ranges.
+AIRS = [((2700, 1400), (2730, 1400)), ((2600, 800), (2600, 700)),
+        ((3050, 5000), (3030, 5000)), ((3500, 1300), (3500, 1301)),
+        ((2000, 701), (2000, 700)), ((2660, -500), (2659, -500)),
+        ((3080, -500), (3081, -500)), ((2931, 1000), (2931, -500))]
+
+
+def weighted_limit(drive):
+    """The greatest 8 x other U + 5 x extended U that is not exceeded: 1586 times it is
+    at most 640000 x D."""
+    return 640000 * sum(s.speed for s in drive) // 1586
+
+
+def weighted_parts(weighted):
+    """An extended U and an other U that weigh so much, about half of it each."""
+    extended_U = 8 * (weighted // 80) + 5 * weighted % 8
+    return extended_U, (weighted - 5 * extended_U) // 8
+
+
+def with_air(drive, chosen, fields):
+    """The drive with these fields in the chosen samples."""
+    return [s._replace(**fields) if s.second in chosen else s for s in drive]
+
+
+def short_band_edges():
+    """One sample whose 64,000 of channel 6 are at the limit where it is extended, and
+    above it where it is not."""
+    one = drive_of([793], flow=200, nox=320)
+    cases = [('%s %d and %d, short' % edge, {edge[0]: edge[1]}, {edge[0]: edge[2]})
+             for edge in BAND_EDGES]
+    cases += [('%d at %d m and %d at %d m' % (inside + beside),
+               dict(temperature=inside[0], altitude=inside[1]),
+               dict(temperature=beside[0], altitude=beside[1])) for inside, beside in AIRS]
+    return [Edge(name, 'exceeded', changed(one, 0, **inside), changed(one, 0, **beside), False)
+            for name, inside, beside in cases]
+
+
+def whole_band_edges():
+    """The same in whole drives: the rest of U makes it the limit where the one sample is
+    extended."""
+    drive = nox_drive(5400)
+    edges = []
+    for place, (field, inside, beside) in zip((0, 2000, len(drive) - 1, 0, 1, 3000), BAND_EDGES):
+        one = changed(drive, place, flow=1000, nox=800)
+        rest = (weighted_limit(drive) - 5 * reference.channel_value(one[place], 6)) // 8
+        one = with_nox_sum(one, rest, [k for k in range(len(drive)) if k != place])
+        edges.append(Edge('%s %d and %d' % (field, inside, beside),
+                          OUTSIDE_RULES.get(beside, 'exceeded'),
+                          changed(one, place, **{field: inside}),
+                          changed(one, place, **{field: beside}), True))
+    return edges
+
+
+def weighted_edges(ending, drive, some, whole):
+    """The limit and one unit of U above it, in extended samples and in others, where
+    some samples and where all are extended by each band, or by two at once."""
+    everything = range(len(drive))
+    rest = [k for k in everything if k not in some]
+    limit = weighted_limit(drive)
+    extended_U, other_U = weighted_parts(limit)
+    edges = []
+    bands = dict(BANDS, both=dict(BANDS['warm'], **BANDS['high']))
+    for name, fields in bands.items():
+        part = with_nox_sum(with_air(drive, some, fields), extended_U, some)
+        kept = with_nox_sum(part, other_U, rest)
+        full = with_air(drive, everything, fields)
+        edges += [
+            Edge('extended U at the limit, some %s%s' % (name, ending), 'exceeded',
+                 kept, with_nox_sum(kept, extended_U + 1, some), whole),
+            Edge('other U at the limit, some %s%s' % (name, ending), 'exceeded',
+                 kept, with_nox_sum(part, other_U + 1, rest), whole),
+            Edge('U at the limit, all %s%s' % (name, ending), 'exceeded',
+                 with_nox_sum(full, limit // 5, everything),
+                 with_nox_sum(full, limit // 5 + 1, everything), whole)]
+    return edges
+
+
+def fraction_edges():
+    """Limits that are no whole number, and weights that are no multiple of 8: nothing is
+    rounded.  At D = 356 the weight above the limit exceeds it by the least that there is,
+    2 in 227,840,000, so that 640001 for 640000 tells."""
+    edges = []
+    for speed in (100, 301, 356, 502, 703):
+        drive = with_air(drive_of([speed, 0, 0, 0]), (0, 1), BANDS['warm'])
+        limit = weighted_limit(drive)
+        kept, broken = (with_nox_sum(with_nox_sum(drive, extended_U, (0, 1)), other_U, (2, 3))
+                        for extended_U, other_U in map(weighted_parts, (limit, limit + 1)))
+        edges.append(Edge('a weight of %d' % limit, 'exceeded', kept, broken, False))
+    still = with_air(drive_of([0] * 3, flow=20000, nox=5000), (0, 1), BANDS['cold'])
+    edges.append(Edge('D = 0 with extended NOx', 'exceeded', still, changed(still, 2, speed=1), False))
+    return edges
+
+
+def short_weighted_edges():
+    return fraction_edges() + weighted_edges(', short', drive_of([793, 0, 0, 0]), (1, 2), False)
+
+
+def extended_edges():
+    """Every edge of R-2."""
+    return (short_band_edges() + whole_band_edges() + short_weighted_edges()
+            + weighted_edges('', nox_drive(5400), range(1000, 3000), True))
 
 
 def all_edges():
@@ -516,7 +646,7 @@ def all_edges():
     return (length_edges() + short_share_edges() + share_edges() + distance_edges()
             + stop_edges() + mean_edges() + fast_edges() + top_edges() + air_edges()
             + accelerating_edges() + percentile_edges() + whole_percentile_edges()
-            + height_edges() + nox_edges())
+            + height_edges() + nox_edges() + extended_edges())
 
 
 # --- Random drives -----------------------------------------------------------
@@ -527,13 +657,15 @@ EDGE_SPEEDS = (0, 9, 10, 599, 600, 601, 899, 900, 901, 1000, 1001, 1450, 1451,
 
 def random_drive(rng, n):
     """n samples in three parts, one per class in any order, or in one long rise;
-    NOx near the limit, air mostly in its limits."""
-    nox = rng.choice((10, 20, 40, 45, 50, 60, 200))
+    NOx near the limit, air mostly in its limits and often about an edge of a band."""
+    nox = rng.choice((10, 20, 40, 45, 50, 60, 70, 80, 200))
+    coldest, warmest = rng.choice(((2660, 3080), (2730, 3030), (2725, 2734), (3026, 3035),
+                                   (2660, 2729), (3031, 3080)))
     wild_air = rng.random() < 0.3
     samples = []
     altitudes = random_altitudes(rng, n)
     for k, (speed, altitude) in enumerate(zip(random_speeds(rng, n), altitudes)):
-        temperature = rng.randint(2660, 3080)
+        temperature = rng.randint(coldest, warmest)
         if wild_air and rng.random() < 0.02:
             temperature = rng.choice((2000, 2659, 3081, 3500))
         if wild_air and rng.random() < 0.02:

@@ -12,9 +12,11 @@ line (record bytes in hexadecimal, `-` for an empty record):
     clear -> number 0
     end
 
-With --tallies also lines outside any list (the number is the output's length):
+With --tallies also lines outside any list:
 
-    tally BLOCK 104 -> bytes ...        join A B 104 -> refused 12
+    tally BLOCK LENGTH -> bytes ...     join A B LENGTH -> refused 12
+
+LENGTH is the output's, in decimal.
 
 The same seed gives the same lists.
 """
@@ -25,7 +27,7 @@ import sys
 
 import drives
 import reference
-from reference import LongTrip, Sample, Trip, Window
+from reference import TALLY_LENGTH, LongTrip, Sample, Trip, Window
 
 INT_MIN, INT_MAX = -2 ** 31, 2 ** 31 - 1
 
@@ -41,6 +43,8 @@ WINDOW_FAULTS = [dict(function=6), dict(function=255), dict(channel=7), dict(cha
                  dict(low=1, high=0), dict(low=INT_MAX, high=INT_MIN), dict(low=0, high=-1)]
 
 BAD_LENGTHS = (0, 1, 8, 15, 17, 32)
+# Of a tally or an output; among them that of a tally without its last number.
+BAD_TALLY_LENGTHS = (0, 1, TALLY_LENGTH - 8, TALLY_LENGTH - 1, TALLY_LENGTH + 1, 2 * TALLY_LENGTH)
 SMALL_WIDTHS = (1, 2, 3, 5)
 
 
@@ -62,7 +66,7 @@ def bad_length(rng, record):
 
 
 # A style gives the values of a list's samples.
-STYLES = ('tiny', 'equal', 'altitudes', 'edges', 'wide', 'ramp')
+STYLES = ('tiny', 'equal', 'altitudes', 'edges', 'wide', 'ramp', 'bands')
 
 
 def random_values(rng, style, before):
@@ -77,6 +81,11 @@ def random_values(rng, style, before):
     if style == 'altitudes':
         return dict(speed=rng.choice((0, 300, 700, 1000)), altitude=rng.randint(-30, 5),
                     temperature=2931, flow=rng.randint(0, 1), nox=rng.randint(0, 1), co2=0)
+    if style == 'bands':    # at an edge of a band or in none, NOx about the limits
+        air = {field: rng.choice(values + [drives.FILL[field]] * 4)
+               for field, values in drives.BAND_VALUES.items()}
+        return dict(air, speed=rng.choice((0, 500, 500, 500, 500, 500)), flow=500,
+                    nox=rng.choice((30, 50, 51, 65, 80, 81)), co2=0)
     if style == 'edges':
         return {field: rng.choice(field_edges(field)[0]) for field in ranges}
     if style == 'ramp' and before is not None:
@@ -261,7 +270,7 @@ def verdict_each_list(rng, samples):
 # --- Named lists -------------------------------------------------------------
 
 def plain(second, **fields):
-    values = dict(speed=300, altitude=100, temperature=2931, flow=500, nox=20, co2=2000)
+    values = dict(drives.FILL, speed=300)
     values.update(fields)
     return ('sample', reference.encode_sample(Sample(second=second, **values)))
 
@@ -326,21 +335,21 @@ def at_altitudes(*altitudes):
     return [plain(k, altitude=a) for k, a in enumerate(altitudes)]
 
 
-def refused_samples(second, altitude):
-    """Samples of an open trip at that altitude: of 15 and 17 bytes, of the next
+def refused_samples(second, **fields):
+    """Samples of an open trip with these values: of 15 and 17 bytes, of the next
     second, and with a speed outside its range."""
-    record = plain(second, altitude=altitude)[1]
+    record = plain(second, **fields)[1]
     return [('sample', record[:-1]), ('sample', record + b'\0'),
-            plain(second + 1, altitude=altitude), plain(second, altitude=altitude, speed=3001)]
+            plain(second + 1, **fields), plain(second, **dict(fields, speed=3001))]
 
 
 def height_lists():
     """Rule 21, with a verdict after each call: 101 m away from the start and back; a
     trip after a clear, and the same trip again after another; refused samples that
     would break it, as the first or as the last one, and such as would mend it."""
-    far = [declared(WHOLE)] + refused_samples(0, FAR) + at_altitudes(0)
-    far += refused_samples(1, FAR) + [plain(1, altitude=FAR + 1), plain(1, altitude=100)]
-    near = at_altitudes(0, 101) + refused_samples(2, 0)
+    far = [declared(WHOLE)] + refused_samples(0, altitude=FAR) + at_altitudes(0)
+    far += refused_samples(1, altitude=FAR) + [plain(1, altitude=FAR + 1), plain(1, altitude=100)]
+    near = at_altitudes(0, 101) + refused_samples(2, altitude=0)
     ended = [('close',), plain(2, altitude=FAR), plain(2, altitude=0)]
     uphill = at_altitudes(1000, 1100, 1101)
     return {
@@ -353,12 +362,49 @@ def height_lists():
     }
 
 
+def air_trips(airs, *amounts):
+    """For each temperature and altitude, and each NOx, a trip of one sample at 50.0 km/h
+    and 50.0 kg/h, judged and cleared.  NOx 50 is not exceeded and 51 is; where the sample
+    is extended, 80 is not and 81 is."""
+    return [call for temperature, altitude in airs for nox in amounts
+            for call in (plain(0, speed=500, flow=500, nox=nox, temperature=temperature,
+                               altitude=altitude), ('verdict',), ('clear',))]
+
+
+def extended_lists():
+    """R-2: the ends of the bands; each condition by itself and two at once; a trip whose
+    weight goes over the limit and back; refused samples that would take it over the limit,
+    or below; one sample after a clear."""
+    fill = drives.FILL
+    warm = dict(drives.BANDS['warm'], speed=500)
+    going = [(warm, 80), (fill, 50), (warm, 81), (fill, 51), (warm, 81), (warm, 80), (fill, 51)]
+    trip = [plain(k, **dict(fields, speed=500, nox=nox)) for k, (fields, nox) in enumerate(going)]
+    over, below = (refused_samples(1, nox=nox, **warm) + [('close',), plain(1, nox=nox, **warm)]
+                   for nox in (200, 20))
+    return {
+        'extended-temperatures': air_trips([(t, fill['altitude'])
+                                            for t in drives.BAND_VALUES['temperature']], 60),
+        'extended-altitudes': air_trips([(fill['temperature'], a)
+                                         for a in drives.BAND_VALUES['altitude']], 60),
+        'extended-by-either': air_trips([air for pair in drives.AIRS for air in pair], 60),
+        'extended-once': air_trips([(fill['temperature'], fill['altitude'])], 50, 51)
+        + air_trips([(2700, 1000), (3050, 1000), (3050, 100), (2931, 1000)], 80, 81),
+        'extended-over-and-back': drives.judged_each(trip + [('clear',)] + trip[:2]),
+        'extended-refused': drives.judged_each(
+            trip[:1] + over + [('clear',), plain(0, speed=500, nox=51)] + below),
+    }
+
+
 def named_lists():
     """The fixed lists: {name: (calls, answers)}."""
     lists = {}
     lists.update(marked_case_lists())
     lists.update(refusal_order_lists())
     lists.update(height_lists())
+    lists.update(extended_lists())
+    lists['extended-limits'] = [call for edge in drives.short_weighted_edges()
+                                for drive in (edge.kept, edge.broken)
+                                for call in drives.calls_of(drive) + [('clear',)]]
     for field in reference.RANGES:
         lists['edges-' + field] = field_edge_list(field)
     lists['window-faults'] = [declared(WHOLE._replace(**fault)) for fault in WINDOW_FAULTS]
@@ -380,10 +426,12 @@ def full_trip_list():
 
 
 def trip_lists():
-    """The clean, the exceeded, the downhill and the full drive as lists of calls."""
+    """The clean, the exceeded, the downhill, the summer and the full drive as lists of
+    calls."""
     yield 'clean', drive_list(drives.clean_drive())
     yield 'exceeded', drive_list(drives.exceeded_drive())
     yield 'downhill', drive_list(drives.downhill_drive())
+    yield 'summer', drive_list(drives.summer_drive())
     yield 'full', full_trip_list()
 
 
@@ -413,36 +461,64 @@ def random_block(rng, max_samples=6):
 
 
 def random_out_length(rng):
-    return rng.choice((0, 103, 105)) if rng.random() < 0.05 else reference.TALLY_LENGTH
+    return rng.choice(BAD_TALLY_LENGTHS) if rng.random() < 0.05 else TALLY_LENGTH
+
+
+MOST = 2 ** 64 - 1    # of a number of a tally
+
+
+def tally_of(N, S, counts, U, extended_U):
+    """A tally of these numbers, each of the six counts the same."""
+    return reference.TALLY_LAYOUT.pack(*N, *S, *[counts] * 6, U, extended_U)
 
 
 def random_tally(rng):
-    """A tally, one of its fields often at or just over its bound."""
+    """A tally, one of its fields often at or just over its bound, extended U too."""
     N = rng.choice(([0, 0, 0], [1, 2, 3], [7201, 0, 0], [0, 7200, 0], [0, 0, 3601],
-                    [3600, 0, 0], [2400, 2400, 2401], [2400, 2401, 2401], [2 ** 64 - 1, 1, 0],
+                    [3600, 0, 0], [2400, 2400, 2401], [2400, 2401, 2401], [MOST, 1, 0],
                     [2 ** 63, 2 ** 63, 5]))
     together = min(sum(N), reference.MAX_SAMPLES)
-    bounds = [min(2 ** 64 - 1, top * n) for top, n in zip((600, 900, 3000), N)]
+    bounds = [min(MOST, top * n) for top, n in zip((600, 900, 3000), N)]
     bounds += [together] * 6 + [100000000 * together]
     fields = N + [rng.randint(0, bound) for bound in bounds]
-    k = rng.randrange(10)
-    fields[3 + k] = rng.choice((bounds[k], bounds[k], min(bounds[k] + 1, 2 ** 64 - 1)))
+    k = rng.randrange(len(bounds))
+    fields[3 + k] = rng.choice((bounds[k], bounds[k], bounds[k], min(bounds[k] + 1, MOST)))
+    U = fields[-1]
+    fields.append(rng.choice((0, U, U, U, rng.randint(0, U), rng.randint(0, U), min(U + 1, MOST))))
     if rng.random() < 0.05:
-        fields[rng.randrange(13)] = rng.choice((2 ** 64 - 1, 2 ** 63))
+        fields[rng.randrange(len(fields))] = rng.choice((MOST, 2 ** 63))
     tally = reference.TALLY_LAYOUT.pack(*fields)
-    return (tally + tally)[:rng.choice((0, 103, 105, 208))] if rng.random() < 0.05 else tally
+    return (tally + tally)[:rng.choice(BAD_TALLY_LENGTHS)] if rng.random() < 0.05 else tally
+
+
+def written_text(answer):
+    return 'bytes ' + answer.hex() if isinstance(answer, bytes) else answer_text(answer)
 
 
 def tally_line(block, out_length):
     """One text line: the tally of a block."""
     answer = reference.tally_block(block, out_length)
-    text = 'bytes ' + answer.hex() if isinstance(answer, bytes) else answer_text(answer)
-    return 'tally %s %d -> %s\n' % (hex_text(block), out_length, text)
+    return 'tally %s %d -> %s\n' % (hex_text(block), out_length, written_text(answer))
+
+
+def join_line(a, b, out_length):
+    """One text line: the joining of two tallies."""
+    answer = reference.join(a, b, out_length)
+    return 'join %s %s %d -> %s\n' % (hex_text(a), hex_text(b), out_length, written_text(answer))
+
+
+def band_blocks():
+    """Blocks of one record with a value at each edge of each band, and with two that
+    together tell the conditions apart."""
+    airs = [dict(temperature=temperature, altitude=altitude)
+            for pair in drives.AIRS + [((2700, 1000), (3050, 1000))] for temperature, altitude in pair]
+    airs += [{field: value} for field, values in drives.BAND_VALUES.items() for value in values]
+    return [plain(0, **air)[1] for air in airs]
 
 
 def named_tallies():
     """Blocks of no record, of one, of 7,201 and 7,202, of damaged lengths, with a value at each
-    edge of each range, and with several refusals at once."""
+    edge of each range and of each band, and with several refusals at once."""
     drive = drives.block_of(drives.clean_drive(7200)) + drives.block_of(drives.drive_of([500, 3000]))
     one = drive[:16]
     first = reference.decode_sample(one)
@@ -454,9 +530,51 @@ def named_tallies():
         for values in field_edges(field):
             for value in values:
                 blocks.append(reference.encode_sample(first._replace(**{field: value})))
-    lengths = [(block, reference.TALLY_LENGTH) for block in blocks]
-    lengths += [(block, n) for block in (b'', one, bad, b'x', drive) for n in (0, 1, 103, 105, 208)]
+    blocks += band_blocks() + [b''.join(band_blocks()), drives.block_of(drives.summer_drive())]
+    lengths = [(block, TALLY_LENGTH) for block in blocks]
+    lengths += [(block, n) for block in (b'', one, bad, b'x', drive) for n in BAD_TALLY_LENGTHS]
     return [tally_line(block, n) for block, n in lengths]
+
+
+def bound_tally(samples):
+    """The tally of so many motorway samples with every number at its bound."""
+    U = 100000000 * samples
+    return tally_of((0, 0, samples), (0, 0, 3000 * samples), samples, U, U)
+
+
+def extended_tallies(*amounts):
+    """Tallies of one sample with a U of 7 and these amounts of extended U."""
+    return [tally_of((1, 0, 0), (500, 0, 0), 0, 7, amount) for amount in amounts]
+
+
+def extended_join_cases():
+    """Two tallies and the output's length: extended U at U and one above it, in either
+    tally; every bound reached; 12 after 11 and before 13."""
+    half, more, full = (bound_tally(n) for n in (3600, 3601, 7201))
+    some, at, above = extended_tallies(3, 7, 8)
+    pairs = [(at, some), (half, more), (above, at), (at, above), (above, full), (full, at)]
+    return ([(a, b, TALLY_LENGTH) for a, b in pairs]
+            + [(a, at, TALLY_LENGTH - 8) for a in (some, above, full)])
+
+
+def join_cases():
+    """These, and every pair of some tallies, ill-formed ones, other lengths, and several
+    refusals at once."""
+    good = [bound_tally(n) for n in (0, 3600, 3601, 7201)] + extended_tallies(3, 7)
+    at, full = good[-1], good[3]
+    ill = extended_tallies(2 ** 63, MOST) + [
+        tally_of((samples, 0, 0), (0, 0, 0), 0, U, U + 1)
+        for samples in (0, 1, 7201) for U in {0, 100000000 * samples}]
+    pairs = [(a, b) for a in good for b in good]
+    pairs += [pair for bad in ill for b in (at, full, bad) for pair in ((bad, b), (b, bad))]
+    for n in BAD_TALLY_LENGTHS:
+        pairs += [((at + at)[:n], at), (at, (at + at)[:n])]
+    return (extended_join_cases() + [(a, b, TALLY_LENGTH) for a, b in pairs]
+            + [(a, at, n) for n in BAD_TALLY_LENGTHS for a in (at, ill[0], full)])
+
+
+def named_joins():
+    return [join_line(*case) for case in join_cases()]
 
 
 def tally_case(rng):
@@ -464,10 +582,7 @@ def tally_case(rng):
     out_length = random_out_length(rng)
     if rng.random() < 0.4:
         return tally_line(random_block(rng), out_length)
-    a, b = random_tally(rng), random_tally(rng)
-    answer = reference.join(a, b, out_length)
-    text = 'bytes ' + answer.hex() if isinstance(answer, bytes) else answer_text(answer)
-    return 'join %s %s %d -> %s\n' % (hex_text(a), hex_text(b), out_length, text)
+    return join_line(random_tally(rng), random_tally(rng), out_length)
 
 
 # --- Text --------------------------------------------------------------------
@@ -513,19 +628,19 @@ def coverage(lists):
     return reached
 
 
-def judged_heights(lists):
-    """Of each verdict on samples: the last one's altitude less the first one's."""
-    heights = []
+def judged_trips(lists):
+    """Of each verdict on samples: these samples."""
+    trips = []
     for calls, answers in lists:
-        altitudes = []
+        samples = []
         for call, answer in zip(calls, answers):
             if call[0] == 'clear':
-                altitudes = []
+                samples = []
             if call[0] == 'sample' and answer[0] == 'number':
-                altitudes.append(reference.decode_sample(call[1]).altitude)
-            if call[0] == 'verdict' and altitudes:
-                heights.append(altitudes[-1] - altitudes[0])
-    return heights
+                samples.append(reference.decode_sample(call[1]))
+            if call[0] == 'verdict' and samples:
+                trips.append(list(samples))
+    return trips
 
 
 def main():
@@ -542,7 +657,7 @@ def main():
     parser.add_argument('--tallies', type=int, default=0, help='tallies of blocks and joinings')
     parser.add_argument('--named', action='store_true', help='the fixed lists too')
     parser.add_argument('--trips', action='store_true',
-                        help='the clean, the exceeded, the downhill and the full drive too')
+                        help='the clean, the exceeded, the downhill, the summer and the full drive too')
     parser.add_argument('--drives', action='store_true',
                         help='these and the edge drives too (large)')
     options = parser.parse_args()
@@ -563,7 +678,7 @@ def main():
         samples = 1300 if k == 0 else rng.randint(5, 40)
         write(list_text('reads-%d' % k, *read_each_list(rng, samples, windows)))
     if options.tallies:
-        for line in named_tallies():
+        for line in named_tallies() + named_joins():
             write(line)
     for _ in range(options.tallies):
         write(tally_case(rng))

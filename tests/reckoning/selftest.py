@@ -1,6 +1,7 @@
 """Checks of the reckoning itself: the marked cases (a) to (i) of document 01,
-the reports, rule 21 of document 02's R-1 by hand, the rolling recount, the edge
-drives, and what the generator reaches.  Run: python3 tests/reckoning/selftest.py
+the reports, rule 21 of document 02's R-1 and the weights of its R-2 by hand, the
+rolling recount, the edge drives, and what the generator reaches.
+Run: python3 tests/reckoning/selftest.py
 """
 
 import glob
@@ -12,8 +13,8 @@ import antt
 import drives
 import generate
 import reference
-from reference import (AVERAGE, COUNT, LARGEST, PERCENTILE, SMALLEST, SUM, Sample,
-                       Trip, Window)
+from reference import (AVERAGE, COUNT, LARGEST, PERCENTILE, SMALLEST, SUM, TALLY_LENGTH,
+                       Sample, Trip, Window)
 
 RESULTS = []
 EXAMPLES = os.path.join(os.path.dirname(os.path.abspath(__file__)),
@@ -149,6 +150,206 @@ def height_cases():
           ('verdict', 1 << 1, 0, 1))
 
 
+# --- Extended conditions (R-2) -----------------------------------------------
+
+# Temperature, altitude, whether the sample is extended.
+EXTENDED = ((2659, 0, 0), (2660, 0, 1), (2661, 0, 1), (2728, 0, 1), (2729, 0, 1), (2730, 0, 0),
+            (2931, 0, 0), (3030, 0, 0), (3031, 0, 1), (3032, 0, 1), (3079, 0, 1), (3080, 0, 1),
+            (3081, 0, 0), (2000, 0, 0), (3500, 0, 0),
+            (2931, 700, 0), (2931, 701, 1), (2931, 702, 1), (2931, 1299, 1), (2931, 1300, 1),
+            (2931, 1301, 0), (2931, -500, 0), (2931, 5000, 0),
+            (2700, 1400, 1), (2600, 800, 1), (3050, 5000, 1), (3500, 1300, 1),    # by one
+            (2660, 700, 1), (2729, 1301, 1), (3031, 700, 1), (3080, 1301, 1),
+            (2659, 701, 1), (2730, 1300, 1), (3030, 701, 1), (3081, 1300, 1),
+            (2600, 1400, 0), (2659, 700, 0), (3081, 1301, 0), (2730, 700, 0), (3030, 1301, 0),
+            (2660, 701, 1), (2700, 1000, 1), (3050, 1000, 1), (3080, 1300, 1))    # by two
+
+# D, other U, extended U, exceeded: at D = 793 the limit of 8 x other U + 5 x extended U is
+# 320,000, at 79,300 it is 32,000,000, at 500 it lies between 201,765 and 201,766.
+WEIGHTS = ((793, 40000, 0, 0), (793, 40001, 0, 1), (793, 0, 64000, 0), (793, 0, 64001, 1),
+           (793, 20000, 32000, 0), (793, 20001, 32000, 1), (793, 20000, 32001, 1),
+           (793, 39999, 1, 0), (793, 40000, 1, 1), (793, 39995, 8, 0), (793, 39995, 9, 1),
+           (793, 1, 63998, 0), (793, 1, 63999, 1), (793, 3, 63995, 0), (793, 2, 63997, 1),
+           (500, 25220, 1, 0), (500, 25217, 6, 1), (500, 0, 40353, 0), (500, 0, 40354, 1),
+           (79300, 4000000, 0, 0), (79300, 4000001, 0, 1), (79300, 0, 6400000, 0),
+           (79300, 0, 6400001, 1), (0, 0, 0, 0), (0, 1, 0, 0), (0, 0, 1000000, 0), (1, 0, 1000000, 1))
+
+
+def with_channel_6(total, **fields):
+    """Two samples with this sum of channel 6."""
+    return [dict(fields, flow=total % 10000, nox=1), dict(fields, flow=10000, nox=total // 10000)]
+
+
+def extended_cases():
+    """"A sample is extended at 2660 to 2729, at 3031 to 3080, or above 700 m up to
+    1300 m; one meeting two of these is divided once".  At V 500 and flow 500, NOx 50 is
+    not exceeded and 51 is (case (e)); 1586 x 5 x 40000 is below 640000 x 500 and
+    1586 x 5 x 40500 above it, so of an extended sample 80 is not and 81 is."""
+    for temperature, altitude, extended in EXTENDED:
+        air = dict(speed=500, flow=500, temperature=temperature, altitude=altitude)
+        trips = [make_trip([], [dict(air, nox=nox)])[0] for nox in (50, 51, 80, 81)]
+        marks = [trip.verdict()[2] for trip in trips]
+        fields = [reference.tally_fields(trip.samples)[-2:] for trip in trips]
+        check('%d at %d m' % (temperature, altitude), (marks, fields),
+              ([0, 1 - extended, 1 - extended, 1],
+               [[U, extended * U] for U in (25000, 25500, 40000, 40500)]))
+    for D, other, extended, mark in WEIGHTS:
+        trip, _ = make_trip([], [dict(speed=D // 100)] * 100 + [dict(speed=D % 100)]
+                            + with_channel_6(other)
+                            + with_channel_6(extended, temperature=3050))
+        check('D %d, other U %d, extended U %d' % (D, other, extended),
+              (trip.verdict()[2], reference.tally_fields(trip.samples)[-2:]),
+              (mark, [other + extended, extended]))
+    named = generate.named_lists()
+    for name, marks in (('extended-temperatures', [0, 1] * 4), ('extended-altitudes', [0, 1] * 2),
+                        ('extended-by-either', [0, 1] * 8), ('extended-once', [0, 1] * 5),
+                        ('extended-over-and-back', [0, 0, 0, 0, 1, 0, 1, 0, 0, 0]),
+                        ('extended-refused', [0] * 8 + [1] * 7)):
+        check(name, [answer[2] for answer in named[name][1] if answer[0] == 'verdict'], marks)
+
+
+def extended_tallies():
+    """"The tally gains extended U as its last field, at most U"."""
+    def one(U, extended_U, samples=1):
+        return generate.tally_of((samples, 0, 0), (0, 0, 0), 0, U, extended_U)
+
+    zero, most = bytes(TALLY_LENGTH), 100000000
+    for U, extended_U, answer in ((0, 0, None), (7, 0, None), (7, 6, None), (7, 7, None),
+                                  (7, 8, 12), (0, 1, 12), (most, most, None), (most, most + 1, 12),
+                                  (most + 1, most + 1, 12), (7, 2 ** 64 - 1, 12)):
+        tally = one(U, extended_U)
+        expected = ('refused', answer) if answer else tally
+        check('tally with U %d, extended U %d' % (U, extended_U),
+              [reference.join(tally, zero), reference.join(zero, tally)], [expected] * 2)
+    check('extended U is added', reference.join(one(7, 7), one(5, 3)), one(12, 10, 2))
+    check('extended U is added up to the bound',
+          reference.join(generate.bound_tally(3600), generate.bound_tally(3601)),
+          generate.bound_tally(7201))
+    ill, full = one(7, 8), one(7, 7, 7201)
+    check('11 before 12', reference.join(ill, one(7, 7), TALLY_LENGTH - 8), ('refused', 11))
+    check('12 before 13', [reference.join(ill, full), reference.join(full, ill)],
+          [('refused', 12)] * 2)
+    check('13 with extended U at U', reference.join(full, one(7, 7)), ('refused', 13))
+
+
+def band_reading(ends):
+    """Extended by these six ends of the bands."""
+    return lambda s: (ends[0] <= s.temperature <= ends[1] or ends[2] <= s.temperature <= ends[3]
+                      or ends[4] <= s.altitude <= ends[5])
+
+
+def misreadings():
+    """Ways to read R-2's bands wrongly: {name: extended}."""
+    ends = [inside for _, inside, _ in drives.BAND_EDGES]
+    wrong = {}
+    for k, end in enumerate(ends):
+        for off in (-1, 1):
+            wrong['%d for %d' % (end + off, end)] = band_reading(
+                ends[:k] + [end + off] + ends[k + 1:])
+    for k, name in enumerate(('cold', 'warm', 'high')):
+        wrong['never by ' + name] = band_reading(
+            ends[:2 * k] + [9999, -9999] + ends[2 * k + 2:])
+    cold, warm, high = (band_reading([9999, -9999] * k + ends[2 * k:2 * k + 2]
+                                     + [9999, -9999] * (2 - k)) for k in range(3))
+    wrong['by two alone'] = lambda s: (cold(s) or warm(s)) and high(s)
+    wrong['by one alone'] = lambda s: (cold(s) or warm(s)) != high(s)
+    wrong['not where a rule is broken'] = lambda s: (
+        band_reading(ends)(s) and 2660 <= s.temperature <= 3080 and s.altitude <= 1300)
+    wrong['always'] = lambda s: True
+    wrong['never'] = lambda s: False
+    return wrong
+
+
+def under(reading, work):
+    """What the work gives with another reading of `extended`."""
+    kept = reference.extended
+    reference.extended = reading
+    try:
+        return work()
+    finally:
+        reference.extended = kept
+
+
+def tells_readings(name, inputs, answer, but=()):
+    """Each misreading changes the answer to some of the inputs, but for those named."""
+    right = [answer(each) for each in inputs]
+    check('%s tell each misreading of the bands' % name,
+          [wrong for wrong, reading in misreadings().items()
+           if not under(reading, lambda: any(answer(each) != stated
+                                             for each, stated in zip(inputs, right)))], list(but))
+
+
+def tells_bands(name, lists):
+    """Each misreading changes the exceeded mark of some verdict of the lists."""
+    tells_readings(name, generate.judged_trips(lists), reference.nox_exceeded)
+
+
+def exceeded_in_full(samples):
+    """Document 01's "Moderate and extended conditions weigh alike": "1586 x U >
+    80000 x D and D > 0"."""
+    D = sum(s.speed for s in samples)
+    return 1586 * reference.nox_sum(samples) > 80000 * D and D > 0
+
+
+# Ways to weigh wrongly: {name: the weight of an other U and an extended U}.
+MISWEIGHINGS = {'in full': lambda other, extended: 8 * (other + extended),
+                'four eighths': lambda other, extended: 8 * other + 4 * extended,
+                'six eighths': lambda other, extended: 8 * other + 6 * extended,
+                'exchanged': lambda other, extended: 5 * other + 8 * extended,
+                'twice': lambda other, extended: 8 * other + 25 * extended / 8,
+                'rounded down': lambda other, extended: 8 * (other + 5 * extended // 8),
+                'rounded up': lambda other, extended: 8 * (other - -5 * extended // 8)}
+
+
+def misweighed(samples, weigh):
+    extended_U = reference.extended_nox_sum(samples)
+    D = sum(s.speed for s in samples)
+    return 1586 * weigh(reference.nox_sum(samples) - extended_U, extended_U) > 640000 * D and D > 0
+
+
+def tells_weighing(name, trips):
+    """Each wrong weight changes the exceeded mark of some of the trips."""
+    check('%s tell each wrong weight' % name,
+          [wrong for wrong, weigh in MISWEIGHINGS.items()
+           if not any(misweighed(trip, weigh) != reference.nox_exceeded(trip) for trip in trips)], [])
+
+
+def extended_drives():
+    """What R-2's edge drives tell."""
+    edges = drives.extended_edges()
+    check('the exceeded mark tells every edge of a band',
+          [edge.name for edge in edges if (reference.nox_exceeded(edge.kept),
+                                           reference.nox_exceeded(edge.broken)) != (False, True)], [])
+    moving = [edge for edge in edges if any(s.speed for s in edge.kept)]
+    check('weighed in full they are exceeded on both sides',
+          [edge.name for edge in moving
+           if not (exceeded_in_full(edge.kept) and exceeded_in_full(edge.broken))], [])
+    whole = [edge for edge in edges if edge.whole]
+    check('whole drives have each end of a band, and each band for some and for all samples',
+          len(whole), len(drives.BAND_EDGES) + 3 * (len(drives.BANDS) + 1))
+    for name, some, but in (('short', [edge for edge in edges if not edge.whole], ()),
+                            ('whole', whole, ['not where a rule is broken'])):
+        both = [drive for edge in some for drive in (edge.kept, edge.broken)]
+        tells_readings('%s edge drives' % name, both, reference.nox_exceeded, but)
+    tells_weighing('edge drives', [drive for edge in edges for drive in (edge.kept, edge.broken)])
+    tells_readings('blocks', generate.band_blocks(), reference.tally_block)
+    named = generate.named_lists().values()
+    tells_bands('named lists', named)
+    tells_weighing('named lists', generate.judged_trips(named))
+
+
+def tells_weights(name, lists):
+    """A twentieth of the verdicts at least would be otherwise, were all samples weighed
+    in full; some are exceeded with extended samples."""
+    trips = generate.judged_trips(lists)
+    changed = [trip for trip in trips
+               if exceeded_in_full(trip) != reference.nox_exceeded(trip)]
+    check('%s weigh extended samples less' % name, len(changed) >= len(trips) / 20, True)
+    check('%s are exceeded with extended samples' % name,
+          any(reference.nox_exceeded(trip) and any(map(reference.extended, trip))
+              and not all(map(reference.extended, trip)) for trip in trips), True)
+
+
 # --- The examples of the refusal table ---------------------------------------
 
 def refusal_examples():
@@ -163,7 +364,7 @@ def refusal_examples():
     check('4 speed 3001', Trip().sample(fast), ('refused', 4))
     block = b''.join(reference.encode_sample(Sample(k, 0, 0, 2931, 0, 0, 0)) for k in range(7202))
     check('5 sample 7202', reference.report(block), b'refused 5 at 7201\n')
-    check('5 block of 7202', reference.tally_block(block, 104), ('refused', 5))
+    check('5 block of 7202', reference.tally_block(block), ('refused', 5))
     check('6 width 0', Trip().declare(reference.encode_window(window(COUNT, 0, 0))), ('refused', 6))
     trip = Trip()
     check('7 declare, second 0, declare',
@@ -176,18 +377,19 @@ def refusal_examples():
     trip = Trip()
     trip.declare(wide)
     check('10 read before sampling', trip.read(0), ('refused', 10))
-    full = reference.tally_block(block[:-16], 104)
-    one = reference.tally_block(good, 104)
-    check('11 output of 103 bytes', reference.tally_block(b'', 103), ('refused', 11))
-    crooked = reference.TALLY_LAYOUT.pack(0, 0, 0, 1, 0, 0, 0, 0, 0, 0, 0, 0, 0)
-    check('12 S of u 1, N 0', reference.join(crooked, one, 104), ('refused', 12))
-    check('12 tally of 103 bytes', reference.join(one, one[:103], 104), ('refused', 12))
-    check('13 7201 and 1', reference.join(full, one, 104), ('refused', 13))
-    check('tally of nothing', reference.tally_block(b'', 104), bytes(104))
+    full = reference.tally_block(block[:-16])
+    one = reference.tally_block(good)
+    for length in (TALLY_LENGTH - 8, TALLY_LENGTH - 1, TALLY_LENGTH + 1):
+        check('11 output of %d bytes' % length, reference.tally_block(b'', length), ('refused', 11))
+        check('12 tally of %d bytes' % length, reference.join(one, (one + one)[:length]), ('refused', 12))
+    crooked = generate.tally_of((0, 0, 0), (1, 0, 0), 0, 0, 0)
+    check('12 S of u 1, N 0', reference.join(crooked, one), ('refused', 12))
+    check('13 7201 and 1', reference.join(full, one), ('refused', 13))
+    check('tally of nothing', reference.tally_block(b''), bytes(TALLY_LENGTH))
     half = 16 * 3600
     check('tallies of two parts join to the whole',
-          reference.join(reference.tally_block(block[:half], 104),
-                         reference.tally_block(block[half:-16], 104), 104), full)
+          reference.join(reference.tally_block(block[:half]),
+                         reference.tally_block(block[half:-16])), full)
 
 
 # --- The rolling recount -----------------------------------------------------
@@ -294,6 +496,10 @@ def whole_drives():
     downhill = drives.downhill_drive()
     check('report of the downhill drive', reference.report(drives.block_of(downhill)),
           b'samples 5400\nbroken 00200000\nverdict rule 21\n')
+    for n in (5400, 7200):
+        summer = drives.summer_drive(n)
+        check('summer drive of %d samples' % n,
+              (exceeded_in_full(summer), reference.verdict_of(summer)), (True, ('verdict', 0, 0, 33)))
 
 
 def recorded(path):
@@ -328,19 +534,31 @@ def altitudes():
           [name for name, drive in examples.items() if not steady(drive)], ['downhill.drive'])
     check('it breaks rule 21 alone', reference.verdict_of(examples['downhill.drive']),
           ('verdict', 1 << 21, 0, 21))
+    check('the summer drive is the exceeded one at other temperatures, and clean',
+          ([s._replace(temperature=0) for s in examples['summer.drive']],
+           reference.verdict_of(examples['summer.drive'])),
+          ([s._replace(temperature=0) for s in examples['exceeded.drive']], ('verdict', 0, 0, 33)))
     rng = random.Random(1)
     some = [drives.random_drive(rng, n) for n in range(200)]
-    check('random drives reach altitudes -500, 1300, 1301',
-          {-500, 1300, 1301} - {s.altitude for d in some for s in d}, set())
-    reaches_heights('random drives', [generate.drive_list(d) for d in some])
-    reaches_heights('random drives judged after each sample',
-                    [generate.verdict_each_list(rng, 60) for _ in range(9)])
+    for field, values in dict(drives.BAND_VALUES, altitude=drives.BAND_VALUES['altitude'] + [-500]).items():
+        check('random drives reach every %s of %s' % (field, values),
+              set(values) - {getattr(s, field) for d in some for s in d}, set())
+    for name, lists in (('random drives', [generate.drive_list(d) for d in some]),
+                        ('random drives judged after each sample',
+                         [generate.verdict_each_list(rng, 60) for _ in range(9)])):
+        reaches_heights(name, lists)
+        tells_weights(name, lists)
+
+
+def judged_heights(lists):
+    """Of each verdict on samples: the last one's altitude less the first one's."""
+    return [trip[-1].altitude - trip[0].altitude for trip in generate.judged_trips(lists)]
 
 
 def reaches_heights(name, lists):
     """The verdicts meet rule 21's edge, up and down, and a fifth of them at least is
     on each side of it."""
-    heights = generate.judged_heights(lists)
+    heights = judged_heights(lists)
     check('%s finish 100 and 101 m from the start' % name,
           sorted({-101, -100, 100, 101} - set(heights)), [])
     broken = sum(1 for height in heights if side(height) != 0)
@@ -350,7 +568,7 @@ def reaches_heights(name, lists):
 def reaches_sides(name, lists):
     """Some verdicts break rule 21 downwards, some keep it, some break it upwards."""
     check('%s break rule 21 up and down' % name,
-          sorted({side(height) for height in generate.judged_heights(lists)}), [-1, 0, 1])
+          sorted({side(height) for height in judged_heights(lists)}), [-1, 0, 1])
 
 
 # --- What the lists reach ----------------------------------------------------
@@ -359,6 +577,7 @@ def random_lists():
     rng = random.Random(1)
     lists = [generate.random_list(rng) for _ in range(2000)]
     reaches_heights('random lists', lists)
+    tells_bands('random lists', lists)
     named = list(generate.named_lists().values())
     lists += named
     reached = generate.coverage(lists)
@@ -371,6 +590,7 @@ def random_lists():
     reached = generate.coverage(small)
     check('small lists reach every answer', [w for w in wanted if w not in reached], [])
     reaches_sides('small lists', [each for each in small if each not in named])
+    tells_bands('small lists', small)
     again = [generate.random_list(rng) for rng in [random.Random(1)] for _ in range(50)]
     check('the same seed gives the same lists', again, lists[:50])
     calls, answers = generate.full_trip_list()
@@ -396,24 +616,29 @@ def tally_cases():
 
 
 def small_drives():
-    for calls, answers in antt.verdict_lists(random.Random(1), 20):
+    lists = antt.verdict_lists(random.Random(1), 20)
+    for calls, answers in lists:
         samples = [reference.decode_sample(call[1]) for call in calls[:-1]]
         accelerating = [drives.accelerating_count(samples, c) for c in reference.CLASSES]
         if not (60 <= len(samples) <= 90 and min(accelerating) > 0):
             check('a drive of 60 to 90 samples, accelerating in all classes', False, True)
             return
     check('drives of 60 to 90 samples, accelerating in all classes', True, True)
-    reaches_sides('small drives', antt.verdict_lists(random.Random(1), 20))
+    reaches_sides('small drives', lists)
+    tells_weights('small drives', lists)
 
 
 def main():
     for case in (case_a, case_b, case_c, case_d, case_e, case_f, case_g, case_h, case_i):
         case()
     height_cases()
+    extended_cases()
+    extended_tallies()
     refusal_examples()
     recount(1, 300)
     definitions(1, 500)
     edge_drives()
+    extended_drives()
     line_sides()
     whole_drives()
     altitudes()

@@ -124,7 +124,9 @@ def inputs():
     for n in (5399, 5400, 7200):
         yield 'clean drive of %d' % n, drives.block_of(drives.clean_drive(n))
         yield 'exceeded drive of %d' % n, drives.block_of(drives.exceeded_drive(n))
-    for edge in drives.length_edges() + drives.share_edges() + drives.short_share_edges() + drives.height_edges():
+    yield 'summer drive', drives.block_of(drives.summer_drive())
+    for edge in (drives.length_edges() + drives.share_edges() + drives.short_share_edges() + drives.height_edges()
+                 + drives.nox_edges() + drives.extended_edges()):
         yield edge.name + ', kept', drives.block_of(edge.kept)
         yield edge.name + ', broken', drives.block_of(edge.broken)
     chance = random.Random(11)

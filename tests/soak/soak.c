@@ -107,7 +107,7 @@ static void make_list(pair *s, int size)
         if (size == 2 && (kind == CLEAR || kind == CLOSE || kind == DECLARE || (kind == READ && !once_in(4))))
             kind = SAMPLE;
         make(s, kind);
-        if (s->trip.style == CLIMBS || at_length_rule(s->trip.samples))
+        if (s->trip.style == CLIMBS || s->trip.style == BANDS || at_length_rule(s->trip.samples))
             make(s, VERDICT);
         if (size > 0 && once_in(300))
             s->trip.style = (int)below(STYLES);

@@ -136,6 +136,8 @@ static void blocks(void)
     block_len = sizeof block;
     make(TALLY);
     make(JOIN);
+    put(tally + RDE_TALLY_LEN - 8, 0xffffffff, 4);
+    make(JOIN); /* ill-formed in its last number */
     put(block + 2, 3001, 2);
     make(TALLY); /* out of range */
     block_len--;

@@ -3,7 +3,7 @@ which replays them on the state area, and compares the answers that it writes,
 byte for byte, with the outside reckoning's.  The last line is 'N passed, M
 failed'.
 
-compare.py --files FOLDER: writes the list that `rt check` runs the program on,
+compare.py --files FOLDER: writes the lists that `rt check` runs the program on,
 and what it must write, as the files stdin and stdout of the folder.
 
 A call is a kind, a length of eight bytes and as many bytes; an answer is nine bytes: what it
@@ -72,14 +72,20 @@ def lists():
         yield ('long list %d' % k,) + after_clear(*generate.long_list(rng, 1500))
     for k in range(10):
         yield ('verdicts %d' % k,) + after_clear(*generate.verdict_each_list(rng, 120))
-    for n, drive in (('clean', drives.clean_drive()), ('exceeded', drives.exceeded_drive()), ('downhill', drives.downhill_drive())):
-        yield (n + ' drive',) + after_clear(*generate.drive_list(drive))
+    for name, drive in (('clean', drives.clean_drive()), ('exceeded', drives.exceeded_drive()), ('downhill', drives.downhill_drive()),
+                        ('summer', drives.summer_drive())):
+        yield (name + ' drive',) + after_clear(*generate.drive_list(drive))
+    for edge in drives.extended_edges():
+        for side, drive in (('kept', edge.kept), ('broken', edge.broken)):
+            yield ('%s, %s' % (edge.name, side),) + after_clear(*generate.drive_list(drive))
 
 
 def main():
     if sys.argv[1] == '--files':
-        calls, answers = after_clear(*generate.random_list(random.Random(3), 40, 20))
-        for name, data in (('stdin', script_of(calls)), ('stdout', answers_of(answers))):
+        made = [after_clear(*generate.random_list(random.Random(3), 40, 20)),
+                after_clear(*generate.named_lists()['extended-once'])]
+        for name, data in (('stdin', b''.join(script_of(calls) for calls, _ in made)),
+                           ('stdout', b''.join(answers_of(answers) for _, answers in made))):
             with open(os.path.join(sys.argv[2], name), 'wb') as file:
                 file.write(data)
         return 0

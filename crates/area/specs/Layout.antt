@@ -42,8 +42,6 @@ lengths =
     ∷ 48
     -- tally
     ∷ tallyLength
-    -- reserved: one more number of a tally
-    ∷ 8
     -- altitudes of the first and of the latest sample (crate altitudes)
     ∷ endsLen
     -- speeds, u16 by second
@@ -72,13 +70,13 @@ abbrev pub tallyPart : ℕ
 tallyPart = 5
 
 abbrev pub altitudesPart : ℕ
-altitudesPart = 7
+altitudesPart = 6
 
 abbrev pub speedsPart : ℕ
-speedsPart = 8
+speedsPart = 7
 
 abbrev pub slotsPart : ℕ
-slotsPart = 9
+slotsPart = 8
 
 -- what stands before the k-th of a list of lengths, and all of them together
 unfoldable pub before : List ℕ → ℕ → ℕ
@@ -97,9 +95,9 @@ place k = before lengths k
 unfoldable pub size : ℕ → ℕ
 size k = getD lengths k 0
 
--- the mark of an area of this format: the bytes "RDE2"; it changes with the layout and with what the bytes mean
+-- the mark of an area of this format: the bytes "RDE3"; it changes with the layout and with what the bytes mean
 abbrev pub formatNumber : ℕ
-formatNumber = 843400274
+formatNumber = 860177490
 
 -- the length of the area
 abbrev pub areaLen : ℕ

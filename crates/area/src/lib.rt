@@ -1,20 +1,22 @@
 // The state area: where its parts stand, and a function for each thing that is done to one part; crate area_windows has those of the part `slots`.
 // specs/Layout.antt has the list of the parts.
 use model::MAX_SAMPLES;
+use model::Sample;
 use model::Speed;
 use model::TALLY_LEN;
 use model::Tally;
 use model::Verdict;
+ghost use mathlib.Core.Bool.{true};
 ghost use mathlib.Core.Path.{_≡_};
 ghost use Prim.Native.Nat.{_≤_, _<_};
 ghost use lib.ListN.{length};
 ghost use Rattle.model.specs.Numbers.{leVal};
-ghost use Rattle.model.specs.Records.{maxSamples};
+ghost use Rattle.model.specs.Records.{maxSamples, inRange};
 ghost use Rattle.model.specs.Tallies.{tallyBytes, tallyFrom};
 ghost use Rattle.power.specs.Speeds.{Appended};
 ghost use Rattle.altitudes.specs.Ends.{Kept};
 ghost use Rattle.tally.specs.Sound.{Sound as SoundTally};
-ghost use Rattle.tally_bytes.specs.Low.{Low};
+ghost use Rattle.tally_update.specs.Raised.{Added};
 ghost use Rattle.area.specs.Layout.{areaLen, headNumbers, samplesPart, markPart, windowsPart, formatPart, tallyPart, altitudesPart, speedsPart, partsOf, with, formatNumber, sampleCount, closedMark, windowCount, formatMark, tallyIn};
 ghost use Rattle.area.specs.Stands.{Judges};
 ghost use Rattle.area.specs.Effects.{Changed, Numbered};
@@ -30,20 +32,18 @@ const WINDOWS: usize = 2;
 
 const FORMAT_MARK: usize = 3;
 
-// The mark of an area of this format: the bytes "RDE2". It changes with the layout and with what the bytes mean.
-pub const FORMAT: u32 = 0x3245_4452;
+// The mark of an area of this format: the bytes "RDE3". It changes with the layout and with what the bytes mean.
+pub const FORMAT: u32 = 0x3345_4452;
 
 // The refusal of an area that is found to stand for no trip; document 01 leaves the number free.
 pub const DAMAGED: u32 = 255;
 
-// The parts behind the head, each behind the one before it and the bytes that are reserved.
+// The parts behind the head, each behind the one before it.
 const HEAD_LEN: usize = 64;
 
 const TALLY: usize = HEAD_LEN;
 
-const RESERVED_LEN: usize = 8;
-
-const ALTITUDES: usize = TALLY + TALLY_LEN + RESERVED_LEN;
+const ALTITUDES: usize = TALLY + TALLY_LEN;
 
 const SPEEDS: usize = ALTITUDES + altitudes::ENDS_LEN;
 
@@ -134,19 +134,19 @@ pub fn read_tally(area: &[u8]) -> Tally
     tally_bytes::read(area, TALLY)
 }
 
-// The tally that the next sample is added to: its numbers leave room for others on any bytes, and it is the area's where that is sound.
-pub fn low_tally(area: &[u8]) -> Tally
-    requires { ⌜ length (now area) ≡ areaLen ⌝ }
-    ensures { λ r. ⌜ Low (tallyIn (partsOf (now (area .entry)))) r ⌝ }
-{
-    tally_bytes::read_low(area, TALLY)
-}
-
 pub fn write_tally(area: &mut [u8], t: Tally)
     requires { ⌜ length (now area) ≡ areaLen ⌝ }
     ensures { λ _. ⌜ partsOf (now (area .exit)) ≡ with tallyPart (tallyBytes t) (partsOf (now (area .entry))) ⌝ }
 {
     tally_bytes::write(t, area, TALLY);
+}
+
+// The sample is added to the tally, where that is sound.
+pub fn add_sample(area: &mut [u8], s: Sample)
+    requires { ⌜ (length (now area) ≡ areaLen) × (inRange s ≡ true) ⌝ }
+    ensures { λ _. ⌜ Changed tallyPart (Added s) (partsOf (now (area .entry))) (partsOf (now (area .exit))) ⌝ }
+{
+    tally_update::add(&mut area[TALLY..ALTITUDES], s);
 }
 
 // The altitude of second n becomes the latest, that of second 0 also the first.

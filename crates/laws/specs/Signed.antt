@@ -96,19 +96,20 @@ module _ (a b : ℕ) (h : a < 2 ^ 16) (k : b < 2 ^ 16) where
   pub difference-is : toZ w64 (ofZ w64 (toZ w64 a -ℤ toZ w64 b)) ≡ pos a -ℤ pos b
   difference-is = rw difference (toZ-ofZ w64 (pos a -ℤ pos b) difference-small)
 
--- the product, where it is small
-module _ (a b : ℤ) (h : natAbs a < 2 ^ 63) (k : natAbs b < 2 ^ 63) (m : natAbs (a *ℤ b) < 2 ^ 63) where
+-- the product, and where it is small
+module _ (a b : ℤ) (h : natAbs a < 2 ^ 63) (k : natAbs b < 2 ^ 63) where
   abbrev product : ℤ
   product = toZ w64 (ofZ w64 a) *ℤ toZ w64 (ofZ w64 b)
 
-  product-exact : product ≡ a *ℤ b
+  pub product-exact : product ≡ a *ℤ b
   product-exact = rw (back a h, back b k)
 
-  pub product-fits : SFits w64 product
-  product-fits = rw product-exact (small w64 (a *ℤ b) m)
+  module _ (m : natAbs (a *ℤ b) < 2 ^ 63) where
+    pub product-fits : SFits w64 product
+    product-fits = rw product-exact (small w64 (a *ℤ b) m)
 
-  pub product-is : toZ w64 (ofZ w64 product) ≡ a *ℤ b
-  product-is = rw product-exact (back (a *ℤ b) m)
+    pub product-is : toZ w64 (ofZ w64 product) ≡ a *ℤ b
+    product-is = rw product-exact (back (a *ℤ b) m)
 
 -- a sum from which one value goes and to which one comes
 module _ (z a : ℤ) {m : ℕ} (hz : natAbs z ≤ m) (fits : m < 2 ^ 62) (ha : natAbs a < 2 ^ 32) where

@@ -11,7 +11,7 @@ use Rattle.model.specs.Numbers.{leVal, leAt, leBytes, signed, within, wi
 use Rattle.model.specs.Records.{sampleOf, inRange, channels, channel, functions, windowOf, fieldsKept, layoutKept, recordAt}
 use Rattle.model.specs.Windows.{sampleAt, lookedAt, qualifies, qualifying, valueAt, values, fold, smallest, largest, average, enough, percentile, figure, reading, keepsEntries, entries, displaces, undisplaced, held, moves}
 use Rattle.model.specs.Rules.{inClass, samplesIn, distanceIn, distance, stopped, above100, above145, above160, temperatureFault, altitudeFault, speedAt, speedBefore, acceleration, accelerating, power, acceleratingIn, p95, tooShort, tooLong, shareOutside, tooNear, stopsOutside, urbanMeanOutside, tooFewAbove100, someAbove160, tooManyAbove145, someTemperatureFault, someAltitudeFault, tooFewAccelerating, slow, powerFactor, limitSide, beyondLimit, someBeyond, powerBeyond, apart, lastOf, endsApart, rules}
-use Rattle.model.specs.Verdicts.{broken, mask, noxSum, exceedsLimit, exceeded, finding, verdictOf}
+use Rattle.model.specs.Verdicts.{broken, mask, noxSum, extendedTemperature, extendedAltitude, isExtended, extendedSum, weighted, exceedsLimit, exceeded, finding, verdictOf}
 use Rattle.model.specs.Refusals.{unless, sampleRefusals, declareRefusals, closeRefusals, readRefusals}
 use Rattle.model.specs.Trip.{Call, declare, sample, read, Answer, number, withSample, withWindow, windowAt, told, outcome, said, left, answers, empty}
 use Rattle.model.specs.Report.{ascii, digits, decimal, hexDigit, hexadecimal, findingText, acceptedText, refusedText, pieces, onOutcome, reportFrom, report}
@@ -54,7 +54,7 @@ pub record Table : Type 0 where
   pub c : List (Option ℤ)
   -- both reports, whole
   pub d : List (List ℕ)
-  -- V 500, flow 500, NOx 50 and 51: exceeded
+  -- V 500, flow 500, NOx 50 and 51, not extended: exceeded
   pub e : List Bool
   -- N 100 in u, 5, 6, 30 and 31 stops: rule 8 broken
   pub f : List Bool
@@ -106,7 +106,7 @@ unfolding
     speedAt speedBefore acceleration accelerating power acceleratingIn p95
     tooShort tooLong shareOutside tooNear stopsOutside urbanMeanOutside tooFewAbove100 someAbove160 tooManyAbove145
     someTemperatureFault someAltitudeFault tooFewAccelerating slow powerFactor limitSide beyondLimit someBeyond powerBeyond apart lastOf endsApart rules
-    broken mask noxSum exceedsLimit exceeded finding verdictOf
+    broken mask noxSum extendedTemperature extendedAltitude isExtended extendedSum weighted exceedsLimit exceeded finding verdictOf
     unless sampleRefusals declareRefusals closeRefusals readRefusals withSample withWindow windowAt told outcome said left answers
     recordAt ascii digits decimal hexDigit hexadecimal findingText acceptedText refusedText pieces onOutcome reportFrom report
     computed stated

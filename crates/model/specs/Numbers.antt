@@ -21,7 +21,7 @@ unfoldable pub leBytes : ℕ → ℕ → List ℕ
 leBytes zero v = []
 leBytes (suc n) v = v % 256 ∷ leBytes n (v / 256)
 
--- what n bytes mean as a signed number (i16, i32), in two's complement; negsuc k is −1 − k
+-- what n bytes mean as a signed number (i16, i32, i64), in two's complement; negsuc k is −1 − k
 unfoldable pub signed : ℕ → ℕ → ℤ
 signed n v = cond (ltb v (2 ^ (8 * n - 1))) (pos v) (negsuc (2 ^ (8 * n) - suc v))
 

@@ -1,4 +1,4 @@
--- The rules of a trip (document 01, "The rules"; document 02, R-1; Regulation (EU) 2017/1151, Annex IIIA). A rule is a test of the samples: true where it is broken.
+-- The rules of a trip (document 01, "The rules"; document 02, R-1, and R-2 for the bounds that it shares; Regulation (EU) 2017/1151, Annex IIIA). A rule is a test of the samples: true where it is broken.
 use mathlib.Core.Bool.{Bool, false, cond, _&&_}
 use mathlib.Core.List.{List, [], _∷_, map}
 use mathlib.Core.Option.{Option, none, some}
@@ -49,12 +49,22 @@ above145 s = ltb 1450 (speed s) && leb (speed s) 1600
 unfoldable pub above160 : Sample → Bool
 above160 s = ltb 1600 (speed s)
 
+-- the bounds of rules 13 and 14, which are those of extended conditions (R-2): tenths of kelvin, metres
+abbrev pub lowestTemperature : ℕ
+lowestTemperature = 2660
+
+abbrev pub highestTemperature : ℕ
+highestTemperature = 3080
+
+abbrev pub highestAltitude : ℕ
+highestAltitude = 1300
+
 -- a temperature outside 2660 to 3080, an altitude above 1300
 unfoldable pub temperatureFault : Sample → Bool
-temperatureFault s = outside 2660 3080 (s .temperature)
+temperatureFault s = outside lowestTemperature highestTemperature (s .temperature)
 
 unfoldable pub altitudeFault : Sample → Bool
-altitudeFault s = ltZ (pos 1300) (s .altitude)
+altitudeFault s = ltZ (pos highestAltitude) (s .altitude)
 
 -- "A = next speed − previous speed, a missing neighbour being 0": the speed at a second, 0 past the last
 unfoldable pub speedAt : List Sample → ℕ → ℕ

@@ -7,7 +7,7 @@ ghost use Rattle.model.specs.Numbers.{bit};
 pub const RECORD_LEN: usize = 16;
 
 // Bytes of a tally.
-pub const TALLY_LEN: usize = 104;
+pub const TALLY_LEN: usize = 112;
 
 // The most samples of a trip, of a block and of a tally.
 pub const MAX_SAMPLES: u32 = 7201;
@@ -19,6 +19,13 @@ pub const MAX_WIDTH: u16 = 600;
 
 // No channel of a sample in range is beyond this, either way.
 pub const MAX_CHANNEL: u64 = 100_000_000;
+
+// The bounds of extended conditions: temperatures in tenths of kelvin, and the altitude in metres. Beyond them a rule is broken.
+pub const LOWEST_TEMPERATURE: u16 = 2660;
+
+pub const HIGHEST_TEMPERATURE: u16 = 3080;
+
+pub const HIGHEST_ALTITUDE: i16 = 1300;
 
 // 1 for a test that holds: what masks and counts are made of.
 pub fn bit(b: bool) -> u32
@@ -73,7 +80,7 @@ pub struct ClassTally {
     pub distance: Distance,
 }
 
-// What the rules need of a list of samples, but for the accelerations.
+// What the rules need of a list of samples, but for the accelerations and the first and last altitude.
 pub struct Tally {
     pub urban: ClassTally,
     pub rural: ClassTally,
@@ -92,6 +99,8 @@ pub struct Tally {
     pub altitude: u64,
     // The sum of flow times NOx.
     pub nox: i64,
+    // The same over the samples in extended conditions alone.
+    pub extended: i64,
 }
 
 // What a verdict says first. Document 01 calls it the word.

@@ -6,7 +6,7 @@ use Rattle.model.specs.declared.Tally.{Tally}
 use Rattle.model.specs.Records.{maxSamples, maxChannel}
 use Rattle.model.specs.Tallies.{samplesOf}
 use Rattle.limits.specs.Bounds.{BoundedTally}
-use Rattle.tally.specs.Sound.{Sound, sound-nox}
+use Rattle.tally.specs.Sound.{Sound, sound-nox, sound-extended}
 
 pub tally-bounded : (t : Tally) → Sound t → BoundedTally t
 unfolding samplesOf
@@ -26,4 +26,5 @@ tally-bounded t f =
       stops = omega arith;
       over145 = omega arith;
       nox = omega arith;
+      extended = omega (arith, sound-extended t f .0);
     }

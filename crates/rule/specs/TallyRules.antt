@@ -23,12 +23,16 @@ use Rattle.model.specs.Records.{units}
 use Rattle.model.specs.Rules.{rules, distance, tooShort, tooLong, shareOutside, tooNear, stopsOutside, urbanMeanOutside, tooFewAbove100}
 use Rattle.model.specs.Rules.{someAbove160, tooManyAbove145, someTemperatureFault, someAltitudeFault}
 use Rattle.model.specs.Tallies.{classTally, tallyOf}
-use Rattle.model.specs.Verdicts.{broken, mask, gasFactor, noxLimit, exceeded, exceedsLimit}
+use Rattle.model.specs.Verdicts.{broken, mask, weighted, gasFactor, noxLimit, exceeded, exceedsLimit}
 use Rattle.limits.specs.Table.{row, figure, shareLow, shareHigh}
 
 -- D of a tally
 abbrev pub distanceOf : Tally → Distance
 distanceOf t = record { 0 = units (t .urban .distance) + units (t .rural .distance) + units (t .motorway .distance) }
+
+-- NOx above the limit
+abbrev pub exceededBy : Tally → Bool
+exceededBy t = exceedsLimit (t .nox) (t .extended) (units (distanceOf t))
 
 -- the share of a class in the distance
 abbrev pub shareRule : SpeedClass → ClassTally → Distance → Bool
@@ -81,7 +85,7 @@ module _ (ss : List Sample) where
       someAbove160 tooManyAbove145 someTemperatureFault someAltitudeFault figure row
   tally-rules = refl
 
-  pub exceeded-is : exceedsLimit (tallyOf ss .nox) (units (distanceOf (tallyOf ss))) ≡ exceeded ss
+  pub exceeded-is : exceededBy (tallyOf ss) ≡ exceeded ss
   unfolding exceeded tallyOf classTally distance
   exceeded-is = refl
 
@@ -90,17 +94,17 @@ pub three : {a b c : Bool} {a′ b′ c′ : Bool} → a ≡ a′ → b ≡ b′
 three p q r = rw (p, q, r)
 
 -- without distance nothing is exceeded, with it the test is the product's
-pub no-distance : (u : ℤ) (d : ℕ) → d ≡ 0 → false ≡ exceedsLimit u d
+pub no-distance : (u e : ℤ) (d : ℕ) → d ≡ 0 → false ≡ exceedsLimit u e d
 unfolding exceedsLimit
-no-distance u d e = rw e (by (ltZ (pos 0) (pos gasFactor *ℤ u)))
+no-distance u e d h = rw h (by (ltZ (pos 0) (pos gasFactor *ℤ weighted u e)))
   where
     by : (b : Bool) → false ≡ b && false
     by true = refl
     by false = refl
 
-pub some-distance : (u : ℤ) (d : ℕ) → (d ≡ 0 → ⊥) → ltZ (pos (noxLimit * d)) (pos gasFactor *ℤ u) ≡ exceedsLimit u d
+pub some-distance : (u e : ℤ) (d : ℕ) → (d ≡ 0 → ⊥) → ltZ (pos (noxLimit * d)) (pos gasFactor *ℤ weighted u e) ≡ exceedsLimit u e d
 unfolding exceedsLimit
-some-distance u d h = rw (lt-ltb 0 d (positive d h)) (by (ltZ (pos (noxLimit * d)) (pos gasFactor *ℤ u)))
+some-distance u e d h = rw (lt-ltb 0 d (positive d h)) (by (ltZ (pos (noxLimit * d)) (pos gasFactor *ℤ weighted u e)))
   where
     positive : (d : ℕ) → (d ≡ 0 → ⊥) → 0 < d
     positive zero h = absurd (h refl)

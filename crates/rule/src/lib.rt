@@ -4,10 +4,10 @@ ghost use mathlib.Core.List.{[], _∷_};
 ghost use Prim.Native.Nat.{_^_, _≤_, _<_};
 ghost use Rattle.model.specs.Numbers.{outside};
 ghost use Rattle.model.specs.Records.{units};
-ghost use Rattle.model.specs.Verdicts.{mask, exceedsLimit};
+ghost use Rattle.model.specs.Verdicts.{mask};
 ghost use Rattle.limits.specs.Table.{mostDistance};
 ghost use Rattle.limits.specs.Bounds.{BoundedClass, BoundedTally};
-ghost use Rattle.rule.specs.TallyRules.{distanceOf, shareRule, lengthRules, shareRules, distanceRules, urbanRules, countRules, tallyRules, tallyRuleCount};
+ghost use Rattle.rule.specs.TallyRules.{exceededBy, distanceOf, shareRule, lengthRules, shareRules, distanceRules, urbanRules, countRules, tallyRules, tallyRuleCount};
 use model::ClassTally;
 use model::Distance;
 use model::SpeedClass;
@@ -122,14 +122,14 @@ pub fn tally_rules(n: usize, t: Tally) -> u32
         + 2048 * count_rules(t)
 }
 
-// NOx above 80 mg/km, without rounding.
+// NOx above 80 mg/km, that of extended samples at five eighths, without rounding.
 pub fn exceeded(t: Tally) -> bool
     requires { ⌜ BoundedTally t ⌝ }
-    ensures { λ r. ⌜ r ≡ exceedsLimit (t .nox) (units (distanceOf t)) ⌝ }
+    ensures { λ r. ⌜ r ≡ exceededBy t ⌝ }
 {
     let d = total_distance(t);
     if d.0 == 0 {
         return false;
     }
-    ((80000 * d.0) as i64) < 1586 * t.nox
+    ((640000 * d.0) as i64) < 1586 * extended::weighted(t.nox, t.extended)
 }

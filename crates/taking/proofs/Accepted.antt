@@ -7,18 +7,18 @@ use lib.IntN.{ℤ}
 use Rattle.model.specs.declared.Sample.{Sample}
 use Rattle.model.specs.declared.Tally.{Tally}
 use Rattle.model.specs.Records.{sampleOf}
-use Rattle.model.specs.Tallies.{tallyBytes, tallyFrom}
+use Rattle.model.specs.Tallies.{tallyFrom}
 use Rattle.model.specs.Trip.{Trip, number, refused}
 use Rattle.power.specs.Speeds.{Appended}
 use Rattle.altitudes.specs.Ends.{Kept}
 use Rattle.tally.specs.Add.{added}
-use Rattle.tally_bytes.specs.Low.{Low}
+use Rattle.tally_update.specs.Raised.{Added}
 use Rattle.window.specs.Sweep.{Stepped}
 use Rattle.area.specs.Layout.{samplesPart, tallyPart, altitudesPart, speedsPart, slotsPart, Parts, partsOf, with, closedMark, windowCount, formatMark, tallyIn, altitudesIn, speedsIn, slotsIn}
 use Rattle.area.specs.Stands.{damaged, Stands}
 use Rattle.area.specs.Effects.{Changed, Numbered}
 use Rattle.area_windows.specs.Effects.{CountedMoves}
-use Rattle.taking.specs.Effects.{Taken, Accepts, number-fine}
+use Rattle.taking.specs.Effects.{Taken, TakenSound, Accepts, number-fine}
 
 number-same : (z y : ℤ) → number z ≡ number y → z ≡ y
 number-same z y e = cc
@@ -28,11 +28,12 @@ carried : (R : List ℕ → List ℕ → Type 0) {a a′ b b′ : List ℕ} → 
 carried R {a} {a′} {b} {b′} e f r = subst (R a′) (sym f) (subst (λ (l : List ℕ). R l b) e r)
 
 -- the tally, then the windows, then the speeds, then the altitudes, then the number of samples; z is the altitude
-pub taken : {k n : ℕ} {r : List ℕ} {x : Sample} {tl : Tally} {z : ℤ} {p p₁ p₂ p₃ p₄ q : Parts} → p₁ ≡ with tallyPart (tallyBytes tl) p → Changed slotsPart (Stepped k n r) p₁ p₂
+pub taken : {k n : ℕ} {r : List ℕ} {x : Sample} {z : ℤ} {p p₁ p₂ p₃ p₄ q : Parts} → Changed tallyPart (Added x) p p₁ → Changed slotsPart (Stepped k n r) p₁ p₂
     → Changed speedsPart (Appended n (x .speed)) p₂ p₃ → Changed altitudesPart (Kept n z) p₃ p₄ → Numbered samplesPart (n + 1) p₄ q → z ≡ x .altitude
-    → Taken k n r x tl p q
+    → TakenSound k n r x p q
 unfolding with
-taken {k} {n} {r} {x} {tl} {z} {p} {p₁} {p₂} {p₃} {p₄} {q} is₁ w a b f ez =
+taken {k} {n} {r} {x} {z} {p} {p₁} {p₂} {p₃} {p₄} {q} t w a b f ez sound =
+    let is₁ = t .is ∙ ap (λ (l : List ℕ). with tallyPart l p) (t .by sound) in
     let is₂ = w .is ∙ ap (with slotsPart (slotsIn p₂)) is₁ in
     let is₃ = a .is ∙ ap (with speedsPart (speedsIn p₃)) is₂ in
     let is₄ = b .is ∙ ap (with altitudesPart (altitudesIn p₄)) is₃ in
@@ -48,16 +49,16 @@ taken {k} {n} {r} {x} {tl} {z} {p} {p₁} {p₂} {p₃} {p₄} {q} is₁ w a b f
       stepped = carried (Stepped k n r) (ap slotsIn is₁) (ap slotsIn is) (w .by);
     }
 
--- a sample is taken with the tally that was read
-pub take-done : {s s′ r : List ℕ} {n k : ℕ} {z : ℤ} {x₀ : Sample} {t u : Tally} → k ≡ windowCount (partsOf s) → x₀ ≡ sampleOf r → Low (tallyIn (partsOf s)) t → u ≡ added t x₀
-    → Taken k n r x₀ u (partsOf s) (partsOf s′) → CountedMoves (partsOf s′) z → Accepts r n s (number z) s′
-take-done {s} {s′} {r} {n} {k} {z} {x₀} {t} {u} ek ex low eu x c = record {
+-- a sample is taken
+pub take-done : {s s′ r : List ℕ} {n k : ℕ} {z : ℤ} {x₀ : Sample} → k ≡ windowCount (partsOf s) → x₀ ≡ sampleOf r
+    → TakenSound k n r x₀ (partsOf s) (partsOf s′) → CountedMoves (partsOf s′) z → Accepts r n s (number z) s′
+take-done {s} {s′} {r} {n} {k} {z} {x₀} ek ex x c = record {
   taken = λ y e h.
       let f : z ≡ y = number-same z y e in
-      let y₁ = subst (λ (m : ℕ). Taken m n r x₀ u (partsOf s) (partsOf s′)) ek x in
-      let y₂ = subst (λ (v : Tally). Taken (windowCount (partsOf s)) n r x₀ v (partsOf s) (partsOf s′)) (eu ∙ ap (λ (v : Tally). added v x₀) (low .same h)) y₁ in
-      let y₃ = subst (λ (w : Sample). Taken (windowCount (partsOf s)) n r w (added (tallyFrom (tallyIn (partsOf s))) w) (partsOf s) (partsOf s′)) ex y₂ in
-      (y₃, λ l. sym f ∙ c l);
+      let t : Tally = tallyFrom (tallyIn (partsOf s)) in
+      let y₁ = subst (λ (m : ℕ). Taken m n r x₀ (added t x₀) (partsOf s) (partsOf s′)) ek (x h) in
+      let y₂ = subst (λ (w : Sample). Taken (windowCount (partsOf s)) n r w (added t w) (partsOf s) (partsOf s′)) ex y₁ in
+      (y₂, λ l. sym f ∙ c l);
   unsound = λ j e. absurd (number-fine z j e);
   unjudged = λ v e. let w : _≡_ {A = ℕ} 0 1 = cc in absurd (omega arith);
 }

@@ -32,6 +32,10 @@ pub record Taken (k n : ℕ) (r : List ℕ) (x : Sample) (t : Tally) (p q : Part
   pub altitudes : Kept n (x .altitude) (altitudesIn p) (altitudesIn q)
   pub stepped : Stepped k n r (slotsIn p) (slotsIn q)
 
+-- the same, the tally being the area's with the sample, where the area's is sound
+abbrev pub TakenSound : (k n : ℕ) (r : List ℕ) (x : Sample) (p q : Parts) → Type 0
+TakenSound k n r x p q = Sound (tallyFrom (tallyIn p)) → Taken k n r x (added (tallyFrom (tallyIn p)) x) p q
+
 -- what is known once the refusals before it are not given: s is the sample of the record r, and its turn, n, has come
 pub record Taking (area r : List ℕ) (s : Sample) (n : ℕ) : Type 0 where
   pub size : length area ≡ areaLen

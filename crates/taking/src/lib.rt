@@ -4,18 +4,20 @@ use area::DAMAGED;
 use model::Answer;
 use model::MAX_WINDOWS;
 use model::Sample;
-use model::Tally;
 ghost use Rattle.model.specs.Answers.{answerOf};
+ghost use mathlib.Core.Bool.{true};
+ghost use mathlib.Core.Path.{_≡_};
+ghost use Rattle.model.specs.Records.{inRange};
 ghost use Rattle.area_windows.specs.Effects.{Stepping};
 ghost use Rattle.area.specs.Layout.{partsOf};
-ghost use Rattle.taking.specs.Effects.{Taken, Taking, Accepts};
+ghost use Rattle.taking.specs.Effects.{TakenSound, Taking, Accepts};
 
-// The sample of second n and its record go into every part of the area; t is the tally with it.
-fn store(area: &mut [u8], record: &[u8], s: Sample, n: u32, k: u32, t: Tally)
-    requires { ⌜ Stepping (now area) k n (now «record») ⌝ }
-    ensures { λ _. ⌜ Taken k n (now («record» .entry)) s t (partsOf (now (area .entry))) (partsOf (now (area .exit))) ⌝ }
+// The sample of second n and its record go into every part of the area.
+fn store(area: &mut [u8], record: &[u8], s: Sample, n: u32, k: u32)
+    requires { ⌜ Stepping (now area) k n (now «record») × (inRange s ≡ true) ⌝ }
+    ensures { λ _. ⌜ TakenSound k n (now («record» .entry)) s (partsOf (now (area .entry))) (partsOf (now (area .exit))) ⌝ }
 {
-    area::write_tally(area, t);
+    area::add_sample(area, s);
     area_windows::step_windows(area, k as usize, n as u16, record);
     area::append_speed(area, n as usize, s.speed);
     area::keep_altitude(area, n as usize, s.altitude);
@@ -31,7 +33,6 @@ pub fn take(area: &mut [u8], record: &[u8], s: Sample, n: u32) -> Answer
     if MAX_WINDOWS < k {
         return Answer::Refused(DAMAGED);
     }
-    let t = area::low_tally(area);
-    store(area, record, s, n, k, tally::add(t, s));
+    store(area, record, s, n, k);
     Answer::Number(area_windows::moves(area))
 }

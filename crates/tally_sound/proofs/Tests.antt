@@ -26,7 +26,7 @@ pub sound-tests : (t : Tally) (n : ℕ) (u r m : Bool) (z : ℤ)
     → (leb n maxSamples
     && (u && (r && (m
     && (leb (t .stops) n && (leb (t .over100) n && (leb (t .over145) n && (leb (t .over160) n
-    && (leb (t .temperature) n && (leb (t .altitude) n && (leZ (pos 0) (t .nox) && leZ (t .nox) z)))))))))))
+    && (leb (t .temperature) n && (leb (t .altitude) n && ((leZ (pos 0) (t .nox) && leZ (t .nox) z) && (leZ (pos 0) (t .extended) && leZ (t .extended) (t .nox)))))))))))))
     ≡ sound t
 unfolding sound all withinℤ figure row
 sound-tests t n u r m z e p q s f = rw (f, p, q, s, e, and-true)

@@ -9,20 +9,19 @@ use mathlib.Core.List.{List, [], _∷_, _++_, map}
 use Prim.Native.Nat.{ℕ, suc, _+_, _/_, _%_, _≤_}
 use native.Mathlib.Numerals.{add-one}
 use native.Mathlib.Omega.{arith}
-use lib.ListN.{length, take, drop, length-map, take-append-drop}
+use lib.ListN.{length, drop, length-map, take-append-drop}
 use lib.Seq.{drop-drop}
 use Rattle.model.specs.declared.Finding.the-variants.{Rule, Exceeded, Clean}
 use Rattle.model.specs.declared.Sample.{Sample}
 use Rattle.model.specs.declared.Tally.{Tally}
 use Rattle.model.specs.declared.Verdict.{Verdict}
-use Rattle.model.specs.Records.{units}
 use Rattle.model.specs.Rules.{speed, endsApart, rules}
 use Rattle.model.specs.Tallies.{tallyOf}
-use Rattle.model.specs.Verdicts.{broken, mask, exceeded, exceedsLimit, finding, verdictOf}
+use Rattle.model.specs.Verdicts.{broken, mask, exceeded, finding, verdictOf}
 use Rattle.laws.specs.Lists.{drop-past}
 use Rattle.power.specs.Counts.{limitsOf, countsOf}
 use Rattle.power.specs.Dynamics.{dynamicsRules, firstDynamics, dynamicsCount, dynamics-rules}
-use Rattle.rule.specs.TallyRules.{distanceOf, tallyRules, tally-rules, exceeded-is}
+use Rattle.rule.specs.TallyRules.{exceededBy, tallyRules, tally-rules, exceeded-is}
 use Rattle.altitudes.specs.declared.Ends.{Ends}
 use Rattle.altitudes.specs.Ends.{EndsOf, endsRule, ends-rule}
 
@@ -98,7 +97,7 @@ module _ (ss : List Sample) (t : Tally) (n : ℕ) (vs : List ℕ) (e : Ends) (a 
   unfolding brokenBy tallyRules dynamicsRules
   few = omega arith
 
-  pub verdict-is : (v : Verdict) → v .broken ≡ mask (brokenBy t vs n e) → v .exceeded ≡ exceedsLimit (t .nox) (units (distanceOf t))
+  pub verdict-is : (v : Verdict) → v .broken ≡ mask (brokenBy t vs n e) → v .exceeded ≡ exceededBy t
       → ((bs : List Bool) → length bs ≤ maskBits → v .broken ≡ mask bs → v .finding ≡ finding 0 bs (v .exceeded)) → v ≡ verdictOf ss
   unfolding verdictOf
   verdict-is v m f g =

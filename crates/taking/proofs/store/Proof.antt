@@ -14,7 +14,7 @@ returns c =
     let slots = speeds .before .before .before .before in
     let tally = slots .before .before .before .before in
     let fits = altitudes .before .struct-told .given .1 .1 .0 .1 in
-    taken (tally .write-tally .ensures) (slots .step-windows .ensures) (speeds .append-speed .ensures) (altitudes .keep-altitude .ensures)
+    taken (tally .add-sample .ensures) (slots .step-windows .ensures) (speeds .append-speed .ensures) (altitudes .keep-altitude .ensures)
     (samples .set-samples .ensures) (toZ-ofZ w16 _ (record { sfits = fits }))
 
 pub store-spec : {M : Type 1} → statement M

@@ -12,36 +12,27 @@ use Rattle.taking.proofs.take.Tie as tie
 returns : tie.Need-returns
 returns c = take-damaged (many-windows _ (omega (arith, c .before .windows .ensures)))
 
-add-requires : tie.Need-add-requires
-add-requires c κs =
-    let tally = c .before in
-    let start = tally .before .before .before .before .before .before .before in
-    (tally .low-tally .ensures .small, start .pre .range)
-
 store-requires : tie.Need-store-requires
 store-requires c κs =
-    let few = c .before .before .before .before in
+    let few = c .before in
     let start = few .before .before .before .before .before in
-    record { size = start .pre .size; windows = few .if1 .left; second = start .pre .room; bytes = start .pre .bytes }
+    (record { size = start .pre .size; windows = few .if1 .left; second = start .pre .room; bytes = start .pre .bytes }, start .pre .range)
 
 moves-requires : tie.Need-moves-requires
 moves-requires c κs =
     let stored = c .before .before .before in
-    let start = stored .before .before .before .before .before .before .before .before .before .before in
+    let start = stored .before .before .before .before .before .before .before in
     stored .store .kept .0 ∙ start .pre .size
 
 returns-2 : tie.Need-returns-2
 returns-2 c =
     let stored = c .before .before .before .before in
-    let tally = stored .before .before .before in
-    let windows = tally .before .before .before in
+    let windows = stored .before .before .before in
     let start = windows .before .before .before .before in
     rw (toZ-ofZ w64 (c .moves .result) (record { sfits = c .moves .ok }))
-    (take-done (windows .windows .ensures) (start .pre .sample) (tally .low-tally .ensures) (stored .before .add .ensures) (stored .store .ensures)
-    (c .moves .ensures))
+    (take-done (windows .windows .ensures) (start .pre .sample) (stored .store .ensures) (c .moves .ensures))
 
 pub take-spec : {M : Type 1} → statement M
 take-spec =
     tie.close
-    (tie.spec (λ c κs. search needs) (λ c. search needs) returns (λ c κs. search needs) add-requires store-requires moves-requires
-    (λ c. search needs) returns-2)
+    (tie.spec (λ c κs. search needs) (λ c. search needs) returns store-requires moves-requires (λ c. search needs) returns-2)

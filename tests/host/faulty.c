@@ -45,6 +45,13 @@ enum {
     VERDICT_OTHER_BITS,    /* a bit of no rule is set */
     VERDICT_WORD,          /* the word is the next rule's number */
     VERDICT_CLEAN,         /* the word for exceeded is that for clean */
+    WALK_FIRST,            /* the first sample is never accelerating */
+    WALK_LAST,             /* the last sample is followed by its own speed */
+    WALK_REST,             /* the samples behind the last whole eight are not counted */
+    WALK_SEVEN,            /* an acceleration of 7 is enough */
+    WALK_EIGHT,            /* one of 8 is not */
+    WALK_SHORT,            /* P is cut to 16 bits */
+    WALK_LINE,             /* the first line holds for every mean */
     HEIGHT_EARLY,          /* 100 m break rule 21 */
     HEIGHT_LATE,           /* 101 m keep it */
     HEIGHT_UP,             /* a finish above the start keeps it */
@@ -197,6 +204,72 @@ static rde_answer told(rde_answer a)
     return a;
 }
 
+/* --- Rules 15 to 20 --- */
+
+#define WALK_RULE 15
+
+/* The speeds of the area cleared last, as the altitudes are, and N and S of the classes. Rules 15 to 20 are told by them whatever the
+ * fault is; without one of these, as the library does. */
+static struct {
+    int samples;
+    int speeds[RDE_MAX_SAMPLES];
+    int64_t count[3], sum[3];
+} walk;
+
+static int class_of(int speed)
+{
+    return (speed > 600) + (speed > 900);
+}
+
+static void walk_sample(const uint8_t *record)
+{
+    int speed = u16_at(record + 2), c = class_of(speed);
+    if (walk.samples == RDE_MAX_SAMPLES) /* a damaged area may take more */
+        return;
+    walk.speeds[walk.samples++] = speed;
+    walk.count[c]++;
+    walk.sum[c] += speed;
+}
+
+static int beyond_line(int c, int64_t p)
+{
+    int64_t n = walk.count[c], s = walk.sum[c];
+    if (s <= 746 * n || on(WALK_LINE))
+        return 10000 * p * n > 2592 * (136 * s + 144400 * n);
+    return 100000 * p * n > 2592 * (742 * s + 1896600 * n);
+}
+
+/* The acceleration, as one of these faults has it. */
+static int acceleration_at(int i)
+{
+    int before = i > 0 ? walk.speeds[i - 1] : 0;
+    int after = i + 1 < walk.samples ? walk.speeds[i + 1] : on(WALK_LAST) ? walk.speeds[i] : 0;
+    return i == 0 && on(WALK_FIRST) ? 0 : after - before;
+}
+
+/* The verdict with rules 15 to 20 as one of these faults has them. */
+static rde_verdict_answer walk_told(rde_verdict_answer v)
+{
+    uint32_t accelerating[3] = {0}, within[3] = {0};
+    int end = on(WALK_REST) && walk.samples > 1 ? 1 + (walk.samples - 2) / 8 * 8 : walk.samples;
+    if (v.refusal != 0)
+        return v;
+    for (int i = 0; i < end; i++) {
+        int a = acceleration_at(i), c = class_of(walk.speeds[i]), p = walk.speeds[i] * a;
+        int counts = a >= 8 - on(WALK_SEVEN) + on(WALK_EIGHT);
+        accelerating[c] += (uint32_t)counts;
+        within[c] += counts && !beyond_line(c, on(WALK_SHORT) ? p & 0xffff : p);
+    }
+    v.broken &= ~(63u << WALK_RULE);
+    for (int c = 0; c < 3; c++)
+        v.broken |= ((uint32_t)(accelerating[c] < 150) | (uint32_t)(100 * within[c] < 95 * accelerating[c]) << 3) << (WALK_RULE + c);
+    v.word = v.exceeded ? RDE_EXCEEDED : RDE_CLEAN;
+    for (uint32_t k = RDE_RULES; k-- > 0;)
+        if (v.broken >> k & 1)
+            v.word = k;
+    return v;
+}
+
 /* --- Rule 21 --- */
 
 #define HEIGHT_RULE 21
@@ -340,6 +413,7 @@ rde_answer __wrap_rde_clear(uint8_t *area, size_t area_len)
     if (a.refusal == 0) {
         heights_clear();
         sums_clear();
+        memset(&walk, 0, sizeof walk);
     }
     if (on(CLEAR_VALUE) && a.refusal == 0)
         a.value = 1;
@@ -399,6 +473,8 @@ rde_answer __wrap_rde_sample(uint8_t *area, size_t area_len, const uint8_t *reco
     if (whole) {
         heights_sample(record, a.refusal == 0);
         sums_sample(record, a.refusal == 0);
+        if (a.refusal == 0)
+            walk_sample(record);
     }
     if (on(REFUSAL_WRITES) && a.refusal == RDE_RANGE)
         area[60]++;
@@ -436,7 +512,7 @@ rde_answer __wrap_rde_read(const uint8_t *area, size_t area_len, uint32_t window
 
 rde_verdict_answer __wrap_rde_verdict(const uint8_t *area, size_t area_len)
 {
-    rde_verdict_answer v = heights_told(sums_told(__real_rde_verdict(area, area_len)));
+    rde_verdict_answer v = heights_told(sums_told(walk_told(__real_rde_verdict(area, area_len))));
     if (on(UNCLEARED_CLEAN) && v.refusal == RDE_DAMAGED)
         return (rde_verdict_answer){0, 0, 0, RDE_CLEAN};
     if (on(VERDICT_EXCEEDED))

@@ -500,6 +500,44 @@ def whole_percentile_edges():
     return edges
 
 
+# --- One accelerating sample at each place -----------------------------------
+
+LONGEST_STEP = 20
+
+# For each class the speed of the sample in front, of another class, and the speed
+# that is held, so that no sample of the class is accelerating by the change.
+STEADY = {URBAN: (1000, 300), RURAL: (1000, 700), MOTORWAY: (900, 906)}
+
+
+def step_drive(which, count, place, rise):
+    """A drive of `count` samples of which that at `place` alone is an accelerating one
+    of the class: the speed after it is higher by `rise` than that before it."""
+    other, speed = STEADY[which]
+    if place == 0:
+        return drive_of([speed] + [rise] * (count - 1))
+    if place == 1:
+        return drive_of(([other, speed, other + rise] + [other] * count)[:count])
+    speeds = [other] + [speed] * (count - 1)
+    speeds[place + 1] += rise
+    return drive_of(speeds)
+
+
+def step_edge(which, count, place):
+    """The least rise that breaks the class's line, and the one before it."""
+    rise = 9
+    while not reference.broken_rules(step_drive(which, count, place, rise))[18 + which]:
+        rise += 1
+    return Edge('class %d, sample %d of %d' % (which, place, count), 18 + which,
+                step_drive(which, count, place, rise - 1), step_drive(which, count, place, rise), False)
+
+
+def step_edges():
+    """Short drives whose one accelerating sample of a class is within its line and
+    beyond it, at each place but the last, at which no sample is accelerating."""
+    return [step_edge(which, count, place) for which in STEADY
+            for count in range(2, LONGEST_STEP + 1) for place in range(count - 1)]
+
+
 # --- NOx ---------------------------------------------------------------------
 
 def nox_drive(n):

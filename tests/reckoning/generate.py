@@ -435,9 +435,9 @@ def trip_lists():
     yield 'full', full_trip_list()
 
 
-def edge_drive_lists():
-    """Every edge drive as a list of calls."""
-    for edge in drives.all_edges():
+def edge_drive_lists(edges):
+    """Both sides of each edge as a list of calls."""
+    for edge in edges:
         yield edge.name + ', kept', drive_list(edge.kept)
         yield edge.name + ', broken', drive_list(edge.broken)
 
@@ -660,6 +660,9 @@ def main():
                         help='the clean, the exceeded, the downhill, the summer and the full drive too')
     parser.add_argument('--drives', action='store_true',
                         help='these and the edge drives too (large)')
+    parser.add_argument('--steps', action='store_true',
+                        help='short drives with one accelerating sample of a class, at each place but the last, '
+                             'and the short edge drives of rules 15 to 17')
     options = parser.parse_args()
     rng = random.Random(options.seed)
     write = sys.stdout.write
@@ -686,7 +689,11 @@ def main():
         for name, (calls, answers) in trip_lists():
             write(list_text(name, calls, answers))
     if options.drives:
-        for name, (calls, answers) in edge_drive_lists():
+        for name, (calls, answers) in edge_drive_lists(drives.all_edges()):
+            write(list_text(name, calls, answers))
+    if options.steps:
+        counted = [edge for edge in drives.accelerating_edges() if not edge.whole]
+        for name, (calls, answers) in edge_drive_lists(drives.step_edges() + counted):
             write(list_text(name, calls, answers))
 
 

@@ -468,6 +468,27 @@ def edge_drives():
           list(range(reference.RULES)))
 
 
+def step_drives():
+    """Each has one accelerating sample of its class, at another place for each drive of
+    a length, and is on the intended side of the line."""
+    edges = drives.step_edges()
+    reached = [(edge.bit - 18, len(drive), accelerating_places(drive, edge.bit - 18))
+               for edge in edges for drive in (edge.kept, edge.broken)]
+    check('step drives reach each place but the last, of each class and length, with one sample each', sorted(reached),
+          sorted(2 * [(which, n, [k]) for which in drives.STEADY
+                      for n in range(2, drives.LONGEST_STEP + 1) for k in range(n - 1)]))
+    check('step drives are on either side of the line',
+          {(bit_of(reference.verdict_of(edge.kept), edge.bit), bit_of(reference.verdict_of(edge.broken), edge.bit))
+           for edge in edges}, {(0, 1)})
+
+
+def accelerating_places(drive, which):
+    """The places of the class's samples with an acceleration of 8 or more."""
+    speeds = [0] + [s.speed for s in drive] + [0]
+    return [k for k, s in enumerate(drive)
+            if reference.speed_class(s.speed) == which and speeds[k + 2] - speeds[k] >= 8]
+
+
 def line_sides():
     """The rural edges lie on the intended sides of 746 x N."""
     def side(drive):
@@ -639,6 +660,7 @@ def main():
     definitions(1, 500)
     edge_drives()
     extended_drives()
+    step_drives()
     line_sides()
     whole_drives()
     altitudes()

@@ -3,13 +3,14 @@ use mathlib.Core.Path.{_≡_, refl}
 use mathlib.Core.Bool.{Bool, true, false, cond}
 use native.Mathlib.Omega.{arith}
 use borrow.Author.Tests.{leb-true, leb-false, le-ltb, lt-ltb}
-use lib.Dec.{leb}
+use lib.Dec.{leb, eqb}
 use Rattle.model.specs.declared.Sample.{Sample}
 use Rattle.model.specs.declared.Speed.{Speed}
 use Rattle.model.specs.declared.SpeedClass.{SpeedClass}
 use Rattle.model.specs.declared.SpeedClass.the-variants.{Urban, Rural, Motorway}
 use Rattle.model.specs.Records.{tenths}
 use Rattle.model.specs.Rules.{inClass, speed}
+use Rattle.limits.specs.Table.{classIndex}
 
 unfoldable pub classOf : Speed → SpeedClass
 classOf v = cond (leb (tenths v) 600) Urban (cond (leb (tenths v) 900) Rural Motorway)
@@ -24,6 +25,19 @@ sameClass Rural Motorway = false
 sameClass Motorway Urban = false
 sameClass Motorway Rural = false
 sameClass Motorway Motorway = true
+
+-- classes are the same where their numbers are
+pub same-index : (c d : SpeedClass) → eqb (classIndex c) (classIndex d) ≡ sameClass c d
+unfolding sameClass
+same-index Urban Urban = refl
+same-index Urban Rural = refl
+same-index Urban Motorway = refl
+same-index Rural Urban = refl
+same-index Rural Rural = refl
+same-index Rural Motorway = refl
+same-index Motorway Urban = refl
+same-index Motorway Rural = refl
+same-index Motorway Motorway = refl
 
 pub in-class : (c : SpeedClass) (s : Sample) → inClass c s ≡ sameClass c (classOf (s .speed))
 unfolding inClass classOf sameClass

@@ -1,13 +1,15 @@
 -- Which of the two percentile lines holds, that the two sides of rules 18 to 20 are those of document 01, and how large they get. Assumes nothing.
-use mathlib.Core.Path.{_≡_, refl}
+use mathlib.Core.Path.{_≡_, refl, ap₂}
 use mathlib.Core.Bool.{Bool, true, false, cond}
 use Prim.Native.Nat.{ℕ, zero, suc, _+_, _*_, _^_, _≤_, _<_}
 use native.Mathlib.Nat.{mul-le-mul}
 use native.Mathlib.Omega.{arith}
 use borrow.Author.Tests.{le-leb, lt-leb}
+use Rattle.model.specs.declared.ClassTally.{ClassTally}
 use Rattle.model.specs.declared.SpeedClass.{SpeedClass}
-use Rattle.model.specs.Records.{maxSamples}
+use Rattle.model.specs.Records.{maxSamples, units}
 use Rattle.model.specs.Rules.{slow, powerFactor, limitSide}
+use Rattle.limits.specs.declared.PowerLimit.{PowerLimit}
 use Rattle.limits.specs.Table.{mostDistance, mostFactor, mostSlope, mostIntercept, lines, row, figure, factor, slope, intercept}
 
 unfoldable pub lineOf : ℕ → ℕ → ℕ
@@ -40,6 +42,18 @@ limit-side c n s = by (slow n s)
     by : (b : Bool) → lineSide c (cond b 0 1) n s ≡ cond b (2592 * (136 * s + 144400 * n)) (2592 * (742 * s + 1896600 * n))
     by true = refl
     by false = refl
+
+-- the limit of a class with N samples and distance S: the right side of rules 18 to 20, and the left side's factor of P95, N with it
+unfoldable pub limitOf : ClassTally → PowerLimit
+limitOf t = record {
+  side = limitSide (t .samples) (units (t .distance));
+  factor = powerFactor (t .samples) (units (t .distance)) * t .samples;
+}
+
+pub limit-is : (t : ClassTally) (side factor : ℕ)
+    → side ≡ limitSide (t .samples) (units (t .distance)) → factor ≡ powerFactor (t .samples) (units (t .distance)) → record { side = side; factor = factor * t .samples } ≡ limitOf t
+unfolding limitOf
+limit-is t side factor e f = ap₂ (λ (s f : ℕ). record { side = s; factor = f * t .samples }) e f
 
 -- the largest coefficients
 pub most : (c : SpeedClass) (line : ℕ) → line < 2 → (factor c line ≤ mostFactor) × ((slope c line ≤ mostSlope) × (intercept c line ≤ mostIntercept))

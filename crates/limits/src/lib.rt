@@ -1,12 +1,13 @@
-// The figures of the classes and of the percentile lines: one table, and what is read off it.
+// The figures of the classes and of the percentile lines: one table, what is read off it, and the limit of a class.
 ghost use mathlib.Core.Path.{_≡_};
 ghost use Prim.Native.Nat.{_*_, _^_, _≤_, _<_};
 ghost use Rattle.model.specs.Records.{maxSamples, tenths, units, travelled};
-ghost use Rattle.model.specs.Rules.{powerFactor, limitSide};
-ghost use Rattle.limits.specs.Table.{mostDistance, mostFactor, mostSlope, mostIntercept};
+ghost use Rattle.limits.specs.Table.{mostFactor, mostSlope, mostIntercept};
 ghost use Rattle.limits.specs.Table.{figure, classIndex, upper, shareLow, shareHigh, factor, slope, intercept};
-ghost use Rattle.limits.specs.Class.{classOf};
-ghost use Rattle.limits.specs.Line.{lineOf, mostSide};
+ghost use Rattle.limits.specs.Class.{classOf, sameClass};
+ghost use Rattle.limits.specs.Line.{lineOf, limitOf};
+ghost use Rattle.limits.specs.Bounds.{BoundedClass};
+use model::ClassTally;
 use model::Distance;
 use model::Speed;
 use model::SpeedClass;
@@ -43,7 +44,15 @@ const TABLE: [u64; 27] = [
     1896600,
 ];
 
-pub fn class_index(c: SpeedClass) -> usize
+// The two sides of rules 18 to 20 for a class: P95 is beyond the line where side < factor × P95.
+pub struct PowerLimit {
+    // The right side.
+    pub side: u64,
+    // The left side's factor of P95, N with it.
+    pub factor: u64,
+}
+
+fn class_index(c: SpeedClass) -> usize
     ensures { λ r. ⌜ (r ≡ classIndex c) × (r < 3) ⌝ }
 {
     match c {
@@ -89,28 +98,28 @@ pub fn share_high(c: SpeedClass) -> u64
 }
 
 // The coefficients of a percentile line of a class: factor × P95 × N against 2592 × (slope × S + intercept × N).
-pub fn factor(c: SpeedClass, line: usize) -> u64
+fn factor(c: SpeedClass, line: usize) -> u64
     requires { ⌜ line < 2 ⌝ }
     ensures { λ r. ⌜ (r ≡ factor c line) × (r ≤ mostFactor) ⌝ }
 {
     figure(c, 3 + 3 * line)
 }
 
-pub fn slope(c: SpeedClass, line: usize) -> u64
+fn slope(c: SpeedClass, line: usize) -> u64
     requires { ⌜ line < 2 ⌝ }
     ensures { λ r. ⌜ (r ≡ slope c line) × (r ≤ mostSlope) ⌝ }
 {
     figure(c, 4 + 3 * line)
 }
 
-pub fn intercept(c: SpeedClass, line: usize) -> u64
+fn intercept(c: SpeedClass, line: usize) -> u64
     requires { ⌜ line < 2 ⌝ }
     ensures { λ r. ⌜ (r ≡ intercept c line) × (r ≤ mostIntercept) ⌝ }
 {
     figure(c, 5 + 3 * line)
 }
 
-pub fn class_of(v: Speed) -> SpeedClass
+fn class_of(v: Speed) -> SpeedClass
     ensures { λ r. ⌜ r ≡ classOf v ⌝ }
 {
     let urban = upper(SpeedClass::Urban);
@@ -124,6 +133,13 @@ pub fn class_of(v: Speed) -> SpeedClass
     SpeedClass::Motorway
 }
 
+// Whether a speed is of a class.
+pub fn in_class(c: SpeedClass, v: Speed) -> bool
+    ensures { λ r. ⌜ r ≡ sameClass c (classOf v) ⌝ }
+{
+    class_index(c) == class_index(class_of(v))
+}
+
 // Line 0 up to a mean of 74.6 km/h, line 1 above it.
 fn line_of(samples: u64, distance: Distance) -> usize
     requires { ⌜ samples ≤ maxSamples ⌝ }
@@ -132,18 +148,17 @@ fn line_of(samples: u64, distance: Distance) -> usize
     if distance.0 <= 746 * samples { 0 } else { 1 }
 }
 
-// What P95 × N × power_factor may not be above.
-pub fn limit_side(c: SpeedClass, samples: u64, distance: Distance) -> u64
-    requires { ⌜ (samples ≤ maxSamples) × (units distance ≤ mostDistance) ⌝ }
-    ensures { λ r. ⌜ (r ≡ limitSide samples (units distance)) × (r < mostSide) ⌝ }
+// The right side of rules 18 to 20 of a class with N samples and distance S, and beside it the left side's factor × N. No other function reckons
+// either; a verdict asks for them once for each class, and no loop does (tests/limit_side.py).
+pub fn limit_of(c: SpeedClass, t: ClassTally) -> PowerLimit
+    requires { ⌜ BoundedClass t ⌝ }
+    ensures { λ r. ⌜ r ≡ limitOf t ⌝ }
 {
-    let line = line_of(samples, distance);
-    2592 * (slope(c, line) * distance.0 + intercept(c, line) * samples)
-}
-
-pub fn power_factor(c: SpeedClass, samples: u64, distance: Distance) -> u64
-    requires { ⌜ samples ≤ maxSamples ⌝ }
-    ensures { λ r. ⌜ (r ≡ powerFactor samples (units distance)) × (r ≤ mostFactor) ⌝ }
-{
-    factor(c, line_of(samples, distance))
+    let n = t.samples;
+    let s = t.distance;
+    let line = line_of(n, s);
+    PowerLimit {
+        side: 2592 * (slope(c, line) * s.0 + intercept(c, line) * n),
+        factor: factor(c, line) * n,
+    }
 }

@@ -1,225 +1,135 @@
 -- The counts that rules 15 to 20 go by: of each class the accelerating samples, and those of them whose power is not beyond the class's line.
--- `countsOf` counts over the stored speeds; `counted` counts one sample more. Assumes nothing.
-use mathlib.Core.Path.{_≡_, refl, ap₂, _∙_}
-use mathlib.Core.Bool.{Bool, true, false, cond, _&&_, not}
+-- `countsOf` counts over the stored speeds; `CountedTo` is what the walk has counted of the first of them.
+--     counted-none, counted-next, counted-last     no sample; one more; the last, which is never accelerating
+-- Assumes nothing.
+use mathlib.Core.Path.{_≡_, refl, sym, ap₂, _∙_}
+use mathlib.Core.Bool.{Bool, false}
 use mathlib.Core.List.{List, [], _∷_}
-use Prim.Native.Nat.{ℕ, _+_, _*_, _≤_}
+use Prim.Native.Nat.{ℕ, zero, suc, _+_, _^_, _<_}
 use native.Mathlib.Numerals.{add-one}
-use native.Mathlib.Nat.{zero-add, add-zero}
+use native.Mathlib.Nat.{add-zero, zero-add}
 use native.Mathlib.Omega.{arith}
-use lib.IntN.{ℤ, pos, natAbs, _*ℤ_}
-use lib.Signed.{leZ, ltZ}
-use Rattle.model.specs.declared.ClassTally.{ClassTally}
+use lib.ListN.{length}
 use Rattle.model.specs.declared.Speed.{Speed}
 use Rattle.model.specs.declared.SpeedClass.{SpeedClass}
 use Rattle.model.specs.declared.SpeedClass.the-variants.{Urban, Rural, Motorway}
 use Rattle.model.specs.declared.Tally.{Tally}
 use Rattle.model.specs.Numbers.{bit, range, count}
-use Rattle.model.specs.Records.{maxSamples, units}
-use Rattle.model.specs.Rules.{powerFactor, limitSide}
-use Rattle.laws.specs.Lists.{range-snoc, length-range, count-append, count-most}
-use Rattle.limits.specs.Table.{mostFactor}
-use Rattle.limits.specs.Class.{classOf, sameClass}
-use Rattle.limits.specs.Line.{mostSide}
-use Rattle.power.specs.declared.Acceleration.{Acceleration}
-use Rattle.power.specs.declared.Power.{Power}
-use Rattle.power.specs.declared.PowerLimit.{PowerLimit}
-use Rattle.power.specs.declared.PowerLimits.{PowerLimits}
-use Rattle.power.specs.declared.ClassCounts.{ClassCounts}
-use Rattle.power.specs.declared.Counts.{Counts}
-use Rattle.power.specs.Speeds.{speedIn, speedBeforeIn, accelerationOf, accelerationIn, powerOf}
+use Rattle.model.specs.Records.{tenths}
+use Rattle.laws.specs.Lists.{range-snoc, count-append}
+use Rattle.limits.specs.declared.PowerLimit.{PowerLimit}
+use Rattle.limits.specs.Line.{limitOf}
+use Rattle.acceleration.specs.declared.PerClass.{PerClass}
+use Rattle.acceleration.specs.declared.Counts.{Counts}
+use Rattle.acceleration.specs.declared.PowerBounds.{PowerBounds}
+use Rattle.acceleration.specs.declared.PowerLimits.{PowerLimits}
+use Rattle.acceleration.specs.Bound.{limitIn, boundIn, BoundsOf}
+use Rattle.acceleration.specs.Sample.{riseOf, acceleratesIn, withinIn, accelerates, within, accelerates-is, within-is, none-after}
+use Rattle.acceleration.specs.Sample.{MostCounts, raised, counted, noCounts, most-more, counted-most, raised-by}
+use Rattle.power.specs.Speeds.{speedIn, speedBeforeIn, accelerationIn, speed-past}
 
--- What keeps every product within its type: the limits, the counts.
-pub record BoundedLimit (l : PowerLimit) : Type 0 where
-  pub side : natAbs (l .side) ≤ mostSide
-  pub factor : natAbs (l .factor) ≤ mostFactor * maxSamples
-
-pub record BoundedLimits (l : PowerLimits) : Type 0 where
-  pub urban : BoundedLimit (l .urban)
-  pub rural : BoundedLimit (l .rural)
-  pub motorway : BoundedLimit (l .motorway)
-
-pub record BoundedClassCounts (k : ClassCounts) : Type 0 where
-  pub accelerating : k .accelerating ≤ maxSamples
-  pub within : k .within ≤ maxSamples
-
-pub record BoundedCounts (k : Counts) : Type 0 where
-  pub urban : BoundedClassCounts (k .urban)
-  pub rural : BoundedClassCounts (k .rural)
-  pub motorway : BoundedClassCounts (k .motorway)
-
--- the limit of a class with N samples and distance S
-unfoldable pub limitOf : ClassTally → PowerLimit
-limitOf t = record {
-  side = pos (limitSide (t .samples) (units (t .distance)));
-  factor = pos (powerFactor (t .samples) (units (t .distance)) * t .samples);
-}
-
+-- the limits of a trip's classes
 unfoldable pub limitsOf : Tally → PowerLimits
 limitsOf t = record { urban = limitOf (t .urban); rural = limitOf (t .rural); motorway = limitOf (t .motorway) }
 
--- a power beyond a limit
-unfoldable pub beyond : PowerLimit → Power → Bool
-beyond l p = ltZ (l .side) (l .factor *ℤ p .0)
+-- second i is an accelerating one of the class, and its power is not beyond the limit
+abbrev pub acceleratesAt : SpeedClass → List ℕ → ℕ → Bool
+acceleratesAt c vs i = acceleratesIn c (speedIn vs i) (accelerationIn vs i)
 
--- one accelerating sample of the class more
-unfoldable pub withPower : PowerLimit → ClassCounts → Power → ClassCounts
-withPower l k p = record { accelerating = k .accelerating + 1; within = k .within + bit (not (beyond l p)) }
+abbrev pub withinAt : SpeedClass → PowerLimit → List ℕ → ℕ → Bool
+withinAt c l vs i = withinIn c l (speedIn vs i) (accelerationIn vs i)
 
--- from where on a sample is accelerating
-abbrev pub leastAcceleration : ℤ
-leastAcceleration = pos 8
-
--- one of the class d more
-unfoldable pub oneMore : SpeedClass → PowerLimits → Counts → Power → Counts
-oneMore d l k p = record {
-  urban = cond (sameClass Urban d) (withPower (l .urban) (k .urban) p) (k .urban);
-  rural = cond (sameClass Rural d) (withPower (l .rural) (k .rural) p) (k .rural);
-  motorway = cond (sameClass Motorway d) (withPower (l .motorway) (k .motorway) p) (k .motorway);
-}
-
--- a sample of this speed and acceleration is an accelerating one of the class
-unfoldable pub acceleratesIn : SpeedClass → Speed → Acceleration → Bool
-acceleratesIn c v a = sameClass c (classOf v) && leZ leastAcceleration (a .0)
-
--- and its power is not beyond the limit
-unfoldable pub withinIn : SpeedClass → PowerLimit → Speed → Acceleration → Bool
-withinIn c l v a = acceleratesIn c v a && not (beyond l (powerOf v a))
-
-unfoldable pub countedIn : SpeedClass → PowerLimit → ClassCounts → Speed → Acceleration → ClassCounts
-countedIn c l k v a = record {
-  accelerating = k .accelerating + bit (acceleratesIn c v a);
-  within = k .within + bit (withinIn c l v a);
-}
-
-unfoldable pub counted : PowerLimits → Counts → Speed → Acceleration → Counts
-counted l k v a = record {
-  urban = countedIn Urban (l .urban) (k .urban) v a;
-  rural = countedIn Rural (l .rural) (k .rural) v a;
-  motorway = countedIn Motorway (l .motorway) (k .motorway) v a;
-}
-
--- the counts of a class over the first m of the speeds
-unfoldable pub countsIn : SpeedClass → PowerLimit → List ℕ → ℕ → ClassCounts
-countsIn c l vs m = record {
-  accelerating = count (λ i. acceleratesIn c (speedIn vs i) (accelerationIn vs i)) (range 0 m);
-  within = count (λ i. withinIn c l (speedIn vs i) (accelerationIn vs i)) (range 0 m);
+-- how many of the first m seconds pass a test of each class
+abbrev countsIn : (SpeedClass → ℕ → Bool) → ℕ → PerClass
+countsIn t m = record {
+  urban = count (t Urban) (range 0 m);
+  rural = count (t Rural) (range 0 m);
+  motorway = count (t Motorway) (range 0 m);
 }
 
 unfoldable pub countsOf : PowerLimits → List ℕ → ℕ → Counts
 countsOf l vs m = record {
-  urban = countsIn Urban (l .urban) vs m;
-  rural = countsIn Rural (l .rural) vs m;
-  motorway = countsIn Motorway (l .motorway) vs m;
+  accelerating = countsIn (λ c. acceleratesAt c vs) m;
+  within = countsIn (λ c. withinAt c (limitIn l c) vs) m;
 }
-
-abbrev pub noCounts : Counts
-noCounts = record {
-  urban = record { accelerating = 0; within = 0 };
-  rural = record { accelerating = 0; within = 0 };
-  motorway = record { accelerating = 0; within = 0 };
-}
-
-pub count-start : (l : PowerLimits) (vs : List ℕ) → countsOf l vs 0 ≡ noCounts
-unfolding countsOf countsIn count range
-count-start l vs = refl
 
 -- a test over one second more
 count-next : (p : ℕ → Bool) (m : ℕ) → count p (range 0 (m + 1)) ≡ count p (range 0 m) + bit (p m)
 unfolding count
 count-next p m = rw (add-one m, range-snoc 0 m, zero-add m, count-append p (range 0 m) (m ∷ [])) (omega arith)
 
-counts-next : (c : SpeedClass) (l : PowerLimit) (vs : List ℕ) (m : ℕ)
-    → countsIn c l vs (m + 1) ≡ countedIn c l (countsIn c l vs m) (speedIn vs m) (accelerationIn vs m)
-unfolding countsIn countedIn
-counts-next c l vs m =
-    ap₂ (λ (a b : ℕ). record { accelerating = a; within = b })
-    (count-next (λ i. acceleratesIn c (speedIn vs i) (accelerationIn vs i)) m)
-    (count-next (λ i. withinIn c l (speedIn vs i) (accelerationIn vs i)) m)
+counts-next : (t : SpeedClass → ℕ → Bool) (m : ℕ) → countsIn t (m + 1) ≡ raised (countsIn t m) (λ c. t c m)
+unfolding raised
+counts-next t m = rw (count-next (t Urban) m, count-next (t Rural) m, count-next (t Motorway) m)
 
-count-step : (l : PowerLimits) (vs : List ℕ) (m : ℕ) → countsOf l vs (m + 1) ≡ counted l (countsOf l vs m) (speedIn vs m) (accelerationIn vs m)
-unfolding countsOf counted
-count-step l vs m = rw (counts-next Urban (l .urban) vs m, counts-next Rural (l .rural) vs m, counts-next Motorway (l .motorway) vs m)
+-- and where it passes none
+counts-still : (t : SpeedClass → ℕ → Bool) (m : ℕ) → ((c : SpeedClass) → t c m ≡ false) → countsIn t (m + 1) ≡ countsIn t m
+unfolding raised
+counts-still t m e =
+    counts-next t m
+    ∙ raised-by (countsIn t m) (λ c. t c m) (λ c. false) e
+    ∙ rw (add-zero (count (t Urban) (range 0 m)), add-zero (count (t Rural) (range 0 m)), add-zero (count (t Motorway) (range 0 m)))
 
--- a turn of the walk, by what its calls gave
-pub turn : (l : PowerLimits) (vs : List ℕ) (m : ℕ) (k : Counts) (next previous v : Speed) (a : Acceleration)
-    → k ≡ countsOf l vs m → next ≡ speedIn vs (m + 1) → previous ≡ speedBeforeIn vs m → v ≡ speedIn vs m → a ≡ accelerationOf next previous
-    → counted l k v a ≡ countsOf l vs (m + 1)
-turn l vs m k next previous v a e f g h i = rw (i, e, f, g, h, count-step l vs m, add-one m)
+-- What the walk has counted of the first m seconds: whatever the limits of which these are the bounds.
+pub record CountedTo (b : PowerBounds) (vs : List ℕ) (m : ℕ) (k : Counts) : Type 0 where
+  pub most : MostCounts m k
+  pub is : (l : PowerLimits) → BoundsOf l b → k ≡ countsOf l vs m
 
-class-counts-bounded : (c : SpeedClass) (l : PowerLimit) (vs : List ℕ) (m : ℕ) → m ≤ maxSamples → BoundedClassCounts (countsIn c l vs m)
-unfolding countsIn
-class-counts-bounded c l vs m h =
-    let n = length-range 0 m in
-    record {
-      accelerating = omega (arith, count-most (λ i. acceleratesIn c (speedIn vs i) (accelerationIn vs i)) (range 0 m));
-      within = omega (arith, count-most (λ i. withinIn c l (speedIn vs i) (accelerationIn vs i)) (range 0 m));
-    }
+module _ (b : PowerBounds) (vs : List ℕ) where
+  pub counted-none : CountedTo b vs 0 noCounts
+  unfolding countsOf count range
+  counted-none = record {
+    most = record {
+      accelerating = record { urban = omega arith; rural = omega arith; motorway = omega arith };
+      within = record { urban = omega arith; rural = omega arith; motorway = omega arith };
+    };
+    is = λ l h. refl;
+  }
 
-pub counts-bounded : (l : PowerLimits) (vs : List ℕ) (m : ℕ) → m ≤ maxSamples → BoundedCounts (countsOf l vs m)
-unfolding countsOf
-counts-bounded l vs m h = record {
-  urban = class-counts-bounded Urban (l .urban) vs m h;
-  rural = class-counts-bounded Rural (l .rural) vs m h;
-  motorway = class-counts-bounded Motorway (l .motorway) vs m h;
-}
+  -- second m, by its speed and those beside it, as they were read
+  module _ (m : ℕ) (k : Counts) (v next previous : Speed) (kv : tenths v < 2 ^ 16) (kn : tenths next < 2 ^ 16) where
+    abbrev after : Counts
+    after = counted b k v (riseOf next previous)
 
--- what counting a sample does: nothing where it is not accelerating, else one more in its class
-module _ (v : Speed) (a : Acceleration) where
-  counted-one : (c : SpeedClass) (l : PowerLimit) (k : ClassCounts) → countedIn c l k v a ≡ cond (acceleratesIn c v a) (withPower l k (powerOf v a)) k
-  unfolding countedIn withinIn withPower
-  counted-one c l k = by (acceleratesIn c v a)
-    where
-      more : Bool → ClassCounts
-      more b = record { accelerating = k .accelerating + bit b; within = k .within + bit (b && not (beyond l (powerOf v a))) }
+    module _ (ev : v ≡ speedIn vs m) (en : next ≡ speedIn vs (m + 1)) (ep : previous ≡ speedBeforeIn vs m) where
+      accelerating-next : (c : SpeedClass) → accelerates c v (riseOf next previous) ≡ acceleratesAt c vs m
+      accelerating-next c = accelerates-is c v next previous ∙ rw (ev, en, ep, add-one m)
 
-      by : (b : Bool) → more b ≡ cond b (withPower l k (powerOf v a)) k
-      by true = refl
-      by false = rw (add-zero (k .accelerating), add-zero (k .within))
+      within-next : (l : PowerLimits) → BoundsOf l b → (c : SpeedClass)
+          → within c (boundIn b c) v (riseOf next previous) ≡ withinAt c (limitIn l c) vs m
+      within-next l h c = within-is c v next previous (limitIn l c) (boundIn b c) (h c) kv kn ∙ rw (ev, en, ep, add-one m)
 
-  none-more-in : (c : SpeedClass) (l : PowerLimit) (k : ClassCounts) → leZ leastAcceleration (a .0) ≡ false → countedIn c l k v a ≡ k
-  unfolding acceleratesIn
-  none-more-in c l k e = counted-one c l k ∙ rw e (by (sameClass c (classOf v)))
-    where
-      by : (b : Bool) → cond (b && false) (withPower l k (powerOf v a)) k ≡ k
-      by true = refl
-      by false = refl
+      after-is : (l : PowerLimits) → BoundsOf l b → k ≡ countsOf l vs m → after ≡ countsOf l vs (m + 1)
+      unfolding counted countsOf
+      after-is l h e =
+          rw e
+          (ap₂ (λ (x y : PerClass). record { accelerating = x; within = y })
+          (raised-by (countsIn (λ c. acceleratesAt c vs) m) _ _ accelerating-next ∙ sym (counts-next (λ c. acceleratesAt c vs) m))
+          (raised-by (countsIn (λ c. withinAt c (limitIn l c) vs) m) _ _ (within-next l h) ∙ sym (counts-next (λ c. withinAt c (limitIn l c) vs) m)))
 
-  one-more-in : (c d : SpeedClass) (l : PowerLimit) (k : ClassCounts) → d ≡ classOf v → leZ leastAcceleration (a .0) ≡ true
-      → countedIn c l k v a ≡ cond (sameClass c d) (withPower l k (powerOf v a)) k
-  unfolding acceleratesIn
-  one-more-in c d l k e f = counted-one c l k ∙ rw (← e, f) (by (sameClass c d))
-    where
-      by : (b : Bool) → cond (b && true) (withPower l k (powerOf v a)) k ≡ cond b (withPower l k (powerOf v a)) k
-      by true = refl
-      by false = refl
+      pub counted-next : CountedTo b vs m k → CountedTo b vs (m + 1) after
+      counted-next t = record { most = counted-most m b k v (riseOf next previous) (t .most); is = λ l h. after-is l h (t .is l h) }
 
-  pub none-more : (l : PowerLimits) (k : Counts) → leZ leastAcceleration (a .0) ≡ false → counted l k v a ≡ k
-  unfolding counted
-  none-more l k e =
-      rw (
-        none-more-in Urban (l .urban) (k .urban) e,
-        none-more-in Rural (l .rural) (k .rural) e,
-        none-more-in Motorway (l .motorway) (k .motorway) e,
-      )
+  -- the last second, after which there is no speed
+  module _ (m : ℕ) (k : Counts) (e : length vs ≡ m + 1) where
+    last-still : (c : SpeedClass) → acceleratesAt c vs m ≡ false
+    unfolding speedIn
+    last-still c = rw (speed-past vs (suc m) (omega arith)) (none-after c (speedIn vs m) (speedBeforeIn vs m))
 
-  pub one-more : (d : SpeedClass) (p : Power) (l : PowerLimits) (k : Counts)
-      → d ≡ classOf v → p ≡ powerOf v a → leZ leastAcceleration (a .0) ≡ true → counted l k v a ≡ oneMore d l k p
-  unfolding counted oneMore
-  one-more d p l k e g f =
-      rw (
-        g,
-        one-more-in Urban d (l .urban) (k .urban) e f,
-        one-more-in Rural d (l .rural) (k .rural) e f,
-        one-more-in Motorway d (l .motorway) (k .motorway) e f,
-      )
+    within-still : (l : PowerLimits) (c : SpeedClass) → withinAt c (limitIn l c) vs m ≡ false
+    unfolding withinIn
+    within-still l c = rw (last-still c)
 
--- one accelerating sample more, by the test of its power
-module _ (l : PowerLimit) (k : ClassCounts) (p : Power) where
-  pub with-beyond : beyond l p ≡ true → record { accelerating = k .accelerating + 1; within = k .within } ≡ withPower l k p
-  unfolding withPower
-  with-beyond e = rw (e, add-zero (k .within))
+    last-is : (l : PowerLimits) → countsOf l vs m ≡ countsOf l vs (m + 1)
+    unfolding countsOf
+    last-is l =
+        sym (rw (counts-still (λ c. acceleratesAt c vs) m last-still, counts-still (λ c. withinAt c (limitIn l c) vs) m (within-still l)))
 
-  pub with-kept : beyond l p ≡ false → record { accelerating = k .accelerating + 1; within = k .within + 1 } ≡ withPower l k p
-  unfolding withPower
-  with-kept e = rw e
+    pub counted-last : CountedTo b vs m k → CountedTo b vs (m + 1) k
+    counted-last t = record { most = most-more k (omega arith) (t .most); is = λ l h. t .is l h ∙ last-is l }
+
+  -- one sample alone, or none
+  pub counted-few : (n : ℕ) → n < 2 → length vs ≡ n → CountedTo b vs n noCounts
+  counted-few zero h e = counted-none
+  counted-few (suc zero) h e = counted-last 0 noCounts e counted-none
+  counted-few (suc (suc n)) h e = absurd (omega arith)

@@ -26,33 +26,36 @@ use Rattle.model.specs.Verdicts.{broken}
 use Rattle.laws.specs.Order.{leZ-trans, ltZ-leZ, ltZ-true}
 use Rattle.laws.specs.Signed.{scaled}
 use Rattle.limits.specs.Class.{in-class}
+use Rattle.limits.specs.Line.{limitOf}
 use Rattle.slide.specs.Percentile.{Upward, passes, percentile-passes}
-use Rattle.power.specs.declared.ClassCounts.{ClassCounts}
-use Rattle.power.specs.declared.Counts.{Counts}
-use Rattle.power.specs.declared.PowerLimit.{PowerLimit}
-use Rattle.power.specs.Speeds.{speedIn, accelerationIn, powerOf, speed-at, acceleration-is}
-use Rattle.power.specs.Counts.{limitOf, limitsOf, beyond, acceleratesIn, withinIn, countsIn, countsOf}
+use Rattle.limits.specs.declared.PowerLimit.{PowerLimit}
+use Rattle.acceleration.specs.declared.PerClass.{PerClass}
+use Rattle.acceleration.specs.declared.Counts.{Counts}
+use Rattle.acceleration.specs.Bound.{limitIn, beyond}
+use Rattle.acceleration.specs.Sample.{powerOf, acceleratesIn, withinIn}
+use Rattle.power.specs.Speeds.{speedIn, accelerationIn, speed-at, acceleration-is}
+use Rattle.power.specs.Counts.{limitsOf, acceleratesAt, withinAt, countsOf}
 
--- the two rules of a class: too few accelerating samples, and P95 beyond the line
-abbrev pub fewRule : ClassCounts → Bool
-fewRule k = ltb (k .accelerating) 150
+-- the two rules of a class: too few accelerating samples, and P95 beyond the line, since too few of them are not
+abbrev pub fewRule : ℕ → Bool
+fewRule accelerating = ltb accelerating 150
 
-abbrev pub powerRule : ClassCounts → Bool
-powerRule k = ltb (100 * k .within) (95 * k .accelerating)
+abbrev pub powerRule : ℕ → ℕ → Bool
+powerRule accelerating within = ltb (100 * within) (95 * accelerating)
 
 -- they stand three places apart
-abbrev pub classMask : ClassCounts → ℕ
-classMask k = bit (fewRule k) + 8 * bit (powerRule k)
+abbrev pub classMask : ℕ → ℕ → ℕ
+classMask accelerating within = bit (fewRule accelerating) + 8 * bit (powerRule accelerating within)
 
 -- rules 15 to 17, and rules 18 to 20
-abbrev pub acceleratingRules : Counts → List Bool
-acceleratingRules k = fewRule (k .urban) ∷ fewRule (k .rural) ∷ fewRule (k .motorway) ∷ []
+abbrev pub acceleratingRules : PerClass → List Bool
+acceleratingRules a = fewRule (a .urban) ∷ fewRule (a .rural) ∷ fewRule (a .motorway) ∷ []
 
-abbrev pub powerRules : Counts → List Bool
-powerRules k = powerRule (k .urban) ∷ powerRule (k .rural) ∷ powerRule (k .motorway) ∷ []
+abbrev pub powerRules : PerClass → PerClass → List Bool
+powerRules a w = powerRule (a .urban) (w .urban) ∷ powerRule (a .rural) (w .rural) ∷ powerRule (a .motorway) (w .motorway) ∷ []
 
 unfoldable pub dynamicsRules : Counts → List Bool
-dynamicsRules k = acceleratingRules k ++ powerRules k
+dynamicsRules k = acceleratingRules (k .accelerating) ++ powerRules (k .accelerating) (k .within)
 
 -- Counting over a list: those that pass, and of those the ones whose value passes another test.
 length-filter : {A : Type 0} (p q : A → Bool) → ((x : A) → p x ≡ q x) → (xs : List A) → length (filter p xs) ≡ count q xs
@@ -83,11 +86,11 @@ sample-speed (s ∷ ss) (suc i) = sample-speed ss i
 
 -- the tests of the walk are the model's, second by second
 module _ (ss : List Sample) (c : SpeedClass) where
-  accelerates : (i : ℕ) → inClass c (sampleAt ss i) && accelerating ss i ≡ acceleratesIn c (speedIn (map speed ss) i) (accelerationIn (map speed ss) i)
+  accelerates : (i : ℕ) → inClass c (sampleAt ss i) && accelerating ss i ≡ acceleratesAt c (map speed ss) i
   unfolding accelerating acceleratesIn
   accelerates i = rw (in-class c (sampleAt ss i), sample-speed ss i, acceleration-is ss i)
 
-  power-is : (i : ℕ) → power ss i ≡ powerOf (speedIn (map speed ss) i) (accelerationIn (map speed ss) i) .0
+  power-is : (i : ℕ) → power ss i ≡ powerOf (speedIn (map speed ss) i) (accelerationIn (map speed ss) i)
   unfolding power
   power-is i = rw (speed-at ss i, acceleration-is ss i)
 
@@ -95,21 +98,24 @@ module _ (ss : List Sample) (c : SpeedClass) where
   abbrev limit : PowerLimit
   limit = limitOf (classTally c ss)
 
-  abbrev counted-in : ClassCounts
-  counted-in = countsIn c limit (map speed ss) (length ss)
+  abbrev accelerating-count : ℕ
+  accelerating-count = count (acceleratesAt c (map speed ss)) (range 0 (length ss))
+
+  abbrev within-count : ℕ
+  within-count = count (withinAt c limit (map speed ss)) (range 0 (length ss))
 
   abbrev past-line : ℤ → Bool
   past-line = beyondLimit (samplesIn c ss) (units (distanceIn c ss))
 
   -- accelerating samples of a class, and those of them whose power is not beyond the line
-  counts : counted-in .accelerating ≡ length (acceleratingIn c ss)
-  unfolding countsIn acceleratingIn
+  counts : accelerating-count ≡ length (acceleratingIn c ss)
+  unfolding acceleratingIn
   counts = sym (length-filter _ _ accelerates (range 0 (length ss)))
 
-  kept-counts : counted-in .within ≡ count (λ z. not (past-line z)) (map (power ss) (acceleratingIn c ss))
-  unfolding countsIn acceleratingIn withinIn beyond limitOf beyondLimit classTally
+  kept-counts : within-count ≡ count (λ z. not (past-line z)) (map (power ss) (acceleratingIn c ss))
+  unfolding acceleratingIn withinIn beyond limitOf beyondLimit classTally
   kept-counts =
-      let kept : Bool → ℤ → Bool = λ a z. a && not (ltZ (limit .side) (limit .factor *ℤ z)) in
+      let kept : Bool → ℤ → Bool = λ a z. a && not (past-line z) in
       sym (count-kept (power ss) _ _ _ (λ i. ap₂ kept (accelerates i) (power-is i)) (range 0 (length ss)))
 
 -- a larger power is beyond the line where a smaller one is
@@ -132,11 +138,11 @@ some-passes n s none = refl
 some-passes n s (some p) = refl
 
 module _ (ss : List Sample) (c : SpeedClass) where
-  too-few : tooFewAccelerating c ss ≡ fewRule (counted-in ss c)
+  too-few : tooFewAccelerating c ss ≡ fewRule (accelerating-count ss c)
   unfolding tooFewAccelerating
   too-few = rw (counts ss c)
 
-  power-beyond : powerBeyond c ss ≡ powerRule (counted-in ss c)
+  power-beyond : powerBeyond c ss ≡ powerRule (accelerating-count ss c) (within-count ss c)
   unfolding powerBeyond p95
   power-beyond =
       let n : ℕ = samplesIn c ss in
@@ -156,6 +162,6 @@ dynamicsCount = 6
 -- rules 15 to 20 of the samples, by their speeds and their tally
 pub dynamics-rules : (ss : List Sample)
     → dynamicsRules (countsOf (limitsOf (tallyOf ss)) (map speed ss) (length ss)) ≡ take dynamicsCount (drop firstDynamics (broken ss))
-unfolding dynamicsRules countsOf limitsOf tallyOf broken rules
+unfolding dynamicsRules countsOf limitIn limitsOf tallyOf broken rules
 dynamics-rules ss =
     rw (too-few ss Urban, too-few ss Rural, too-few ss Motorway, power-beyond ss Urban, power-beyond ss Rural, power-beyond ss Motorway)

@@ -1,11 +1,11 @@
 -- The stored speeds, a u16 for each second, and the accelerations that they give.
 --     acceleration-is              the accelerations are the model's
 -- Assumes nothing.
-use mathlib.Core.Path.{_≡_, refl, ap₂}
+use mathlib.Core.Path.{_≡_, refl, ap, ap₂}
 use mathlib.Core.List.{List, [], _∷_, _++_, map}
-use Prim.Native.Nat.{ℕ, zero, suc, _+_, _*_, _≤_}
+use Prim.Native.Nat.{ℕ, zero, suc, _+_, _-_, _*_, _≤_}
 use native.Mathlib.Omega.{arith}
-use lib.IntN.{pos, _-ℤ_, _*ℤ_}
+use lib.IntN.{ℤ, pos, _-ℤ_}
 use lib.ListN.{length, getD}
 use Rattle.model.specs.declared.Sample.{Sample}
 use Rattle.model.specs.declared.Speed.{Speed}
@@ -14,18 +14,7 @@ use Rattle.model.specs.Records.{tenths}
 use Rattle.model.specs.Rules.{speed, speedAt, speedBefore, acceleration}
 use Rattle.field.specs.Le.{putLe}
 use Rattle.field.specs.Cells.{cells}
-use Rattle.power.specs.declared.Acceleration.{Acceleration}
-use Rattle.power.specs.declared.Power.{Power}
-
--- the largest speed of a u16, and what two and three of them bound
-abbrev pub mostTenths : ℕ
-mostTenths = 65535
-
-abbrev pub mostAcceleration : ℕ
-mostAcceleration = mostTenths + mostTenths
-
-abbrev pub mostPower : ℕ
-mostPower = mostTenths * mostAcceleration
+use Rattle.acceleration.specs.Sample.{tenthsOf, accelerationOf}
 
 -- the first n speeds of the part
 abbrev pub speedsOf : List ℕ → ℕ → List ℕ
@@ -40,9 +29,6 @@ pub record Appended (n : ℕ) (v : Speed) (before after : List ℕ) : Type 0 whe
   pub is : after ≡ putLe 2 before (2 * n) (tenths v)
   pub speeds : speedsOf after (n + 1) ≡ speedsOf before n ++ (tenths v ∷ [])
 
-abbrev pub tenthsOf : ℕ → Speed
-tenthsOf v = record { 0 = v }
-
 -- the speed of second i, and of the second before it: 0 past the last, and before the first
 unfoldable pub speedIn : List ℕ → ℕ → Speed
 speedIn vs i = tenthsOf (getD vs i 0)
@@ -51,13 +37,16 @@ unfoldable pub speedBeforeIn : List ℕ → ℕ → Speed
 speedBeforeIn vs zero = tenthsOf 0
 speedBeforeIn vs (suc i) = speedIn vs i
 
-abbrev pub accelerationOf : Speed → Speed → Acceleration
-accelerationOf next previous = record { 0 = pos (tenths next) -ℤ pos (tenths previous) }
+pub before-first : (vs : List ℕ) → tenthsOf 0 ≡ speedBeforeIn vs 0
+unfolding speedBeforeIn
+before-first vs = refl
 
-abbrev pub powerOf : Speed → Acceleration → Power
-powerOf v a = record { 0 = pos (tenths v) *ℤ a .0 }
+pub before-later : (vs : List ℕ) (i : ℕ) → 1 ≤ i → speedIn vs (i - 1) ≡ speedBeforeIn vs i
+unfolding speedBeforeIn
+before-later vs zero h = absurd (omega arith)
+before-later vs (suc i) h = ap (speedIn vs) (omega arith)
 
-abbrev pub accelerationIn : List ℕ → ℕ → Acceleration
+abbrev pub accelerationIn : List ℕ → ℕ → ℤ
 accelerationIn vs i = accelerationOf (speedIn vs (suc i)) (speedBeforeIn vs i)
 
 -- past the last speed
@@ -78,6 +67,6 @@ unfolding speedBefore speedBeforeIn
 speed-before ss zero = refl
 speed-before ss (suc i) = speed-at ss i
 
-pub acceleration-is : (ss : List Sample) (i : ℕ) → acceleration ss i ≡ accelerationIn (map speed ss) i .0
+pub acceleration-is : (ss : List Sample) (i : ℕ) → acceleration ss i ≡ accelerationIn (map speed ss) i
 unfolding acceleration
 acceleration-is ss i = ap₂ (λ (a b : ℕ). pos a -ℤ pos b) (speed-at ss (suc i)) (speed-before ss i)

@@ -9,7 +9,8 @@ use Rattle.power.proofs.class_mask.Tie as tie
 
 returns : tie.Need-returns
 returns c =
-    let p : c .bit2 .result ≡ bit (powerRule (c .before .before .before .before .args .k)) = c .bit2 .ensures .0 ∙ ap bit (c .before .power-beyond .ensures) in
+    let x = c .before .before .before .args in
+    let p : c .bit2 .result ≡ bit (powerRule (x .accelerating) (x .within)) = c .bit2 .ensures .0 ∙ ap bit (c .before .power-beyond .ensures) in
     (omega arith, omega arith)
 
 pub class-mask-spec : {M : Type 1} → statement M

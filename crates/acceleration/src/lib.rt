@@ -1,5 +1,7 @@
 // One sample of the walk over the speeds: whether it is accelerating, in which class, and whether its P is beyond the class's line. Each test is a
 // number, 0 or 1, which is counted, so that the compiled walk has no branch on the data and takes several samples at a time.
+#![tactic(auto)]
+
 ghost use Rattle.std.specs.Prelude.{◌≡◌, ◌*◌, ◌≤◌};
 ghost use Rattle.model.specs.Numbers.{bit};
 ghost use Rattle.model.specs.Records.{max_samples, tenths};
@@ -10,7 +12,7 @@ use limits::PowerLimit;
 use model::{Speed, SpeedClass};
 
 // The limits of the three classes.
-#[derive(Drop)]
+#[derive(Clone, Copy)]
 pub struct PowerLimits {
     pub urban: PowerLimit,
     pub rural: PowerLimit,
@@ -18,19 +20,19 @@ pub struct PowerLimits {
 }
 
 // Next speed − previous speed, in tenths of km/h.
-#[derive(Drop)]
+#[derive(Clone, Copy)]
 pub struct Acceleration(pub i64);
 
 // The acceleration where the speed rises, else 0.
-#[derive(Drop)]
+#[derive(Clone, Copy)]
 pub struct Rise(pub u16);
 
 // Speed × rise: P of an accelerating sample.
-#[derive(Drop)]
+#[derive(Clone, Copy)]
 pub struct Power(pub u32);
 
 // The largest P that is not beyond the line, for each class.
-#[derive(Drop)]
+#[derive(Clone, Copy)]
 pub struct PowerBounds {
     pub urban: Power,
     pub rural: Power,
@@ -38,7 +40,7 @@ pub struct PowerBounds {
 }
 
 // A count for each class. Three fields: a struct of two or four u16 is copied as one number, and the walk is then not vectorised.
-#[derive(Drop)]
+#[derive(Clone, Copy)]
 pub struct PerClass {
     pub urban: u16,
     pub rural: u16,
@@ -46,7 +48,7 @@ pub struct PerClass {
 }
 
 // The accelerating samples, and those of them whose P is not beyond the line.
-#[derive(Drop)]
+#[derive(Clone, Copy)]
 pub struct Counts {
     pub accelerating: PerClass,
     pub within: PerClass,

@@ -1,4 +1,6 @@
 // The altitudes of a trip's first sample and of its last, which is the latest so far: kept in a part of the state area, and rule 21, which they decide.
+#![tactic(auto)]
+
 ghost use Rattle.std.specs.Prelude.{◌≡◌, ◌-ℤ◌, length};
 ghost use Rattle.model.specs.Rules.{apart};
 ghost use Rattle.altitudes.specs.Ends.{ends_len, ends_from, Kept, ends_rule};
@@ -14,7 +16,7 @@ const LAST: usize = FIRST + ALTITUDE_LEN;
 pub const ENDS_LEN: usize = LAST + ALTITUDE_LEN;
 
 // The altitudes of the first and of the last sample, in metres.
-#[derive(Drop)]
+#[derive(Clone, Copy)]
 pub struct Ends {
     pub first: i32,
     pub last: i32,

@@ -1,4 +1,6 @@
 // The answers of calls as bytes, written at a place of an output. specs/Answers.antt says what the bytes of an answer are.
+#![tactic(auto)]
+
 ghost use Rattle.std.specs.Prelude.{◌≡◌, ◌+◌, ◌≤◌, length};
 ghost use Rattle.field.specs.Part.{put};
 ghost use Rattle.model.specs.Answers.{answer_of, verdict_answer_of};

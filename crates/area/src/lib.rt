@@ -1,5 +1,7 @@
 // The state area: where its parts stand, and a function for each thing that is done to one part; crate area_windows has those of the part `slots`.
 // specs/Layout.antt has the list of the parts.
+#![tactic(auto)]
+
 ghost use Rattle.std.specs.Prelude.{true, ◌≡◌, ◌≤◌, ◌<◌, length};
 ghost use Rattle.model.specs.Numbers.{le_val};
 ghost use Rattle.model.specs.Records.{max_samples, in_range};

@@ -1,4 +1,6 @@
 // The windows of the state area: a function for each thing that is done to the part `slots`, by crates window, reading and slots.
+#![tactic(auto)]
+
 ghost use Rattle.std.specs.Prelude.{◌≡◌, [], ◌<◌, length};
 ghost use Rattle.model.specs.Records.{record_length, max_windows};
 ghost use Rattle.reading.specs.Read.{Reads};

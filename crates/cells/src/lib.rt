@@ -1,4 +1,6 @@
 // Values in cells of four bytes, as i32: read, written, moved by one cell, and the percentile of values in order.
+#![tactic(auto)]
+
 ghost use Rattle.std.specs.Prelude.{◌≡◌, ◌+◌, ◌-◌, ◌*◌, ◌≤◌, ◌<◌, pos, length, get_or};
 ghost use Rattle.model.specs.Records.{max_width};
 ghost use Rattle.slide.specs.Percentile.{rank};

@@ -1,4 +1,6 @@
 // Extended conditions: whether a sample was taken in them, and U with such samples at five eighths.
+#![tactic(auto)]
+
 ghost use Rattle.std.specs.Prelude.{◌||◌, ◌≡◌, ◌≤◌, nat_abs};
 ghost use Rattle.model.specs.Numbers.{bit};
 ghost use Rattle.model.specs.Verdicts.{extended_temperature, extended_altitude, is_extended, weighted};

@@ -1,4 +1,6 @@
 // Little-endian fields of a byte slice, unsigned; crate signed_field has the signed ones.
+#![tactic(auto)]
+
 ghost use Rattle.std.specs.Prelude.{◌≡◌, ◌+◌, ◌*◌, ◌≤◌, ◌<◌, ◌^◌, length};
 ghost use Rattle.model.specs.Numbers.{le_at};
 ghost use Rattle.field.specs.Le.{put_le};

@@ -1,4 +1,6 @@
 // The figures of the classes and of the percentile lines: one table, what is read off it, and the limit of a class.
+#![tactic(auto)]
+
 ghost use Rattle.std.specs.Prelude.{◌≡◌, ◌*◌, ◌^◌, ◌≤◌, ◌<◌};
 ghost use Rattle.model.specs.Records.{max_samples, tenths, units, travelled};
 ghost use Rattle.limits.specs.Table.{most_factor, most_slope, most_intercept};
@@ -17,7 +19,7 @@ const TABLE: [u64; 27] = [
 ];
 
 // The two sides of rules 18 to 20 for a class: P95 is beyond the line where side < factor × P95.
-#[derive(Drop)]
+#[derive(Clone, Copy)]
 pub struct PowerLimit {
     // The right side.
     pub side: u64,

@@ -1,4 +1,6 @@
 // One sample more for a slot's list of held entries: aged, popped and appended to.
+#![tactic(auto)]
+
 ghost use Rattle.std.specs.Prelude.{◌≡◌, ◌<◌, length};
 ghost use Rattle.model.specs.Records.{max_windows};
 ghost use Rattle.slide.specs.Undisplaced.{pops, aged};

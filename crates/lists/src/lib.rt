@@ -1,4 +1,6 @@
 // The lists of held entries, one in each slot of the windows' part, and the count of the moves that are made in them.
+#![tactic(auto)]
+
 ghost use Rattle.std.specs.Prelude.{◌≡◌, [], ◌∷◌, ◌++◌, ◌+◌, ◌*◌, ◌%◌, ◌^◌, ◌<◌, ◌≤◌, length, get_or};
 ghost use Rattle.model.specs.Records.{max_windows};
 ghost use Rattle.slots.specs.Layout.{part_len, list_capacity, moves_of, number_of};

@@ -108,9 +108,9 @@ unfolding
 marked_cases = refl
 
 -- Rounding to the nearest, halves to even, of the sums of −3 and −4, of −2 and −3, of 1 and 2, and beside a half, of −3, −3 and −4.
-rounded : List ℤ
+pub rounded : List ℤ
 rounded = round_half_even (minus 7) 2 ∷ round_half_even (minus 5) 2 ∷ round_half_even (pos 3) 2 ∷ round_half_even (minus 10) 3 ∷ []
 
 pub rounded_cases : rounded ≡ minus 4 ∷ minus 2 ∷ pos 2 ∷ minus 3 ∷ []
-unfolding floor_div floor_mod even round_half_even minus
+unfolding rounded floor_div floor_mod even round_half_even
 rounded_cases = refl

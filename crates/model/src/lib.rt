@@ -1,4 +1,6 @@
 // The types and figures that code and definitions share. The definitions are in specs/.
+#![tactic(auto)]
+
 ghost use Rattle.std.specs.Prelude.{◌≡◌, ◌≤◌};
 ghost use Rattle.model.specs.Numbers.{bit};
 
@@ -34,15 +36,15 @@ pub fn bit(b: bool) -> u32
 }
 
 // A speed in tenths of km/h.
-#[derive(Drop)]
+#[derive(Clone, Copy)]
 pub struct Speed(pub u16);
 
 // A distance in units of 1/36,000 km: what one second at one tenth of a km/h covers.
-#[derive(Drop)]
+#[derive(Clone, Copy)]
 pub struct Distance(pub u64);
 
 // One sample, taken once a second.
-#[derive(Drop)]
+#[derive(Clone, Copy)]
 pub struct Sample {
     // Seconds since the first sample.
     pub second: u16,
@@ -60,7 +62,7 @@ pub struct Sample {
 }
 
 // What a window reads off the values of its qualifying samples.
-#[derive(Drop)]
+#[derive(Clone, Copy)]
 pub enum Function {
     Count,
     Sum,
@@ -71,7 +73,7 @@ pub enum Function {
 }
 
 // The classes of Annex IIIA by the sample's own speed.
-#[derive(Drop)]
+#[derive(Clone, Copy)]
 pub enum SpeedClass {
     Urban,
     Rural,
@@ -79,14 +81,14 @@ pub enum SpeedClass {
 }
 
 // The tally of one speed class.
-#[derive(Drop)]
+#[derive(Clone, Copy)]
 pub struct ClassTally {
     pub samples: u64,
     pub distance: Distance,
 }
 
 // What the rules need of a list of samples, but for the accelerations and the first and last altitude.
-#[derive(Drop)]
+#[derive(Clone, Copy)]
 pub struct Tally {
     pub urban: ClassTally,
     pub rural: ClassTally,
@@ -110,14 +112,14 @@ pub struct Tally {
 }
 
 // What a verdict says first. Document 01 calls it the word.
-#[derive(Drop)]
+#[derive(Clone, Copy)]
 pub enum Finding {
     Rule(u32),
     Exceeded,
     Clean,
 }
 
-#[derive(Drop)]
+#[derive(Clone, Copy)]
 pub struct Verdict {
     // Bit k is set where rule k is broken.
     pub broken: u32,
@@ -126,14 +128,14 @@ pub struct Verdict {
 }
 
 // The answer of a call, but for the verdict.
-#[derive(Drop)]
+#[derive(Clone, Copy)]
 pub enum Answer {
     Number(i64),
     Refused(u32),
 }
 
 // The answer of the verdict call.
-#[derive(Drop)]
+#[derive(Clone, Copy)]
 pub enum VerdictAnswer {
     Judged(Verdict),
     Refused(u32),

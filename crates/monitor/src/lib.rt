@@ -1,4 +1,6 @@
 // The product for C: every exported function. include/rde.h declares them; specs/Exported.antt has the theorem about every list of the six calls.
+#![tactic(auto)]
+
 ghost use Rattle.std.specs.Prelude.{◌≡◌, length};
 ghost use Rattle.model.specs.Blocks.{tallied, joined};
 ghost use Rattle.model.specs.Trip as model;
@@ -10,7 +12,7 @@ use model::{Answer, Verdict, VerdictAnswer};
 
 // An answer: refusal 0 is accepted, with the value; any other refusal has value 0.
 #[repr(C)]
-#[derive(Drop)]
+#[derive(Clone, Copy)]
 pub struct RdeAnswer {
     pub refusal: u32,
     pub value: i64,
@@ -18,7 +20,7 @@ pub struct RdeAnswer {
 
 // The answer of the verdict call: word 0 to 31 is a rule, 32 exceeded, 33 clean.
 #[repr(C)]
-#[derive(Drop)]
+#[derive(Clone, Copy)]
 pub struct RdeVerdictAnswer {
     pub refusal: u32,
     pub broken: u32,

@@ -1,4 +1,6 @@
 // Values kept in order in a store of four-byte cells, for the percentile of a window.
+#![tactic(auto)]
+
 ghost use Rattle.std.specs.Prelude.{◌+◌, ◌*◌, ◌≤◌, length};
 ghost use Rattle.cells.specs.Store.{Storable};
 ghost use Rattle.search.specs.Place.{Sought};

@@ -1,4 +1,6 @@
 // The trip dynamics: the speeds by second, the walk over them, and rules 15 to 20, which go by what it counts.
+#![tactic(auto)]
+
 ghost use Rattle.std.specs.Prelude.{◌≡◌, ◌+◌, ◌*◌, ◌^◌, ◌≤◌, ◌<◌, length};
 ghost use Rattle.model.specs.Records.{max_samples, tenths};
 ghost use Rattle.model.specs.Verdicts.{mask};

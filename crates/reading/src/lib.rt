@@ -1,4 +1,6 @@
 // What the windows read. Safe on any bytes: numbers are tested before they are used.
+#![tactic(auto)]
+
 ghost use Rattle.std.specs.Prelude.{◌≡◌, ◌+◌, ◌<◌, length};
 ghost use Rattle.model.specs.Numbers.{bit, floor_div};
 ghost use Rattle.model.specs.Records.{max_windows};
@@ -10,7 +12,7 @@ use slots::{SLOT_LEN, STORE_LEN};
 use window::STORES;
 
 // What a window reads, or that no sample in it qualifies.
-#[derive(Drop)]
+#[derive(Clone, Copy)]
 pub enum Reading {
     Value(i64),
     NoneQualifies,

@@ -1,5 +1,7 @@
 // Makes the calls of a script on the state area and writes their answers as bytes (crate answers): the claim about every list of calls holds of this code.
 // Crate script says what a script is, specs/Replayed.antt what is promised.
+#![tactic(auto)]
+
 ghost use Rattle.std.specs.Prelude.{true, ◌≡◌, ◌+◌, ◌≤◌, length, drop};
 ghost use Rattle.answers.specs.Answers.{answer_length};
 ghost use Rattle.script.specs.Script.{call_of, call_length, ready, first};
@@ -9,7 +11,7 @@ use answers::ANSWER_LEN;
 use script::HEAD_LEN;
 
 // How far a replay came.
-#[derive(Drop)]
+#[derive(Clone, Copy)]
 pub struct Progress {
     // Calls made.
     pub made: usize,

@@ -1,12 +1,14 @@
 // The program `report`: judges a recorded drive, from a file or from standard input, and writes its report. What goes wrong is told on
 // standard error, and no report is written then.
+#![tactic(auto)]
+
 ghost use Rattle.std.specs.Prelude.{◌≤◌, length};
 ghost use Rattle.report.specs.Input.{Further};
 
 use libc::{STDERR_FILENO, STDIN_FILENO, STDOUT_FILENO};
 
 // What was read: so many bytes, up to the end of the input or of the buffer; or the input can't be read.
-#[derive(Drop)]
+#[derive(Clone, Copy)]
 enum Input {
     Bytes(usize),
     Unreadable,

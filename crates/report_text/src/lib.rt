@@ -1,4 +1,6 @@
 // The text that the program `report` writes, put into a lent buffer.
+#![tactic(auto)]
+
 ghost use Rattle.std.specs.Prelude.{◌+◌, ◌≤◌, length};
 ghost use Rattle.model.specs.Report.{finding_text, accepted_text, refused_text};
 ghost use Rattle.text.specs.Append.{Appended};

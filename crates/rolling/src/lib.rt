@@ -1,4 +1,6 @@
 // One sample more rolled into a window's count and sum, and into its values in order. Safe on any bytes: numbers are tested before they are used.
+#![tactic(auto)]
+
 ghost use Rattle.std.specs.Prelude.{◌≡◌, ◌+◌, ◌-◌, ◌^◌, ◌≤◌, ◌<◌, nat_abs, length};
 ghost use Rattle.model.specs.Numbers.{bit};
 ghost use Rattle.model.specs.Records.{max_width};
@@ -20,7 +22,7 @@ const LEAST_CELL: i64 = -2_147_483_648;
 const MOST_CELL: i64 = 2_147_483_647;
 
 // What one sample more changes in a window: the value that leaves it, and the value that enters.
-#[derive(Drop)]
+#[derive(Clone, Copy)]
 pub struct Change {
     pub leaves: bool,
     pub old: i64,

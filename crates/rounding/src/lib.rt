@@ -1,4 +1,6 @@
 // A sum by a count: rounded down, what that leaves, and rounded to the nearest. Nothing wraps, whatever the sum.
+#![tactic(auto)]
+
 ghost use Rattle.std.specs.Prelude.{not, ◌≡◌, ◌<◌, pos};
 ghost use Rattle.std.specs.Int.Signed.{mag};
 ghost use Rattle.model.specs.Numbers.{floor_div, floor_mod, even, round_half_even};

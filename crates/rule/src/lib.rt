@@ -1,4 +1,6 @@
 // The rules that the number of samples and their tally decide, rules 0 to 14, and the NOx limit.
+#![tactic(auto)]
+
 ghost use Rattle.std.specs.Prelude.{◌≡◌, [], ◌∷◌, ◌^◌, ◌≤◌, ◌<◌};
 ghost use Rattle.model.specs.Numbers.{outside};
 ghost use Rattle.model.specs.Records.{units};

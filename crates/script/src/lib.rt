@@ -1,5 +1,7 @@
 // A script, a list of calls as bytes: whether there is a call at a place, and the number of the window that a call reads.
 // specs/Script.antt says what a script is, specs/Encoded.antt that every list of calls has one.
+#![tactic(auto)]
+
 ghost use Rattle.std.specs.Prelude.{◌≡◌, ◌≤◌, length, drop};
 ghost use Rattle.script.specs.Script.{window_number, whole, ready};
 

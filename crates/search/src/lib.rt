@@ -1,9 +1,11 @@
 // The place of a value among values in order, by a search in which no branch depends on the data.
+#![tactic(auto)]
+
 ghost use Rattle.std.specs.Prelude.{◌≡◌, ◌+◌, ◌*◌, ◌≤◌, length};
 ghost use Rattle.search.specs.Place.{Sought, sought_by, not_less, Placed, Spanned};
 
 // The places of which one is looked for: from lo to lo + len.
-#[derive(Drop)]
+#[derive(Clone, Copy)]
 struct Span {
     lo: usize,
     len: usize,

@@ -1,4 +1,6 @@
 // The windows' part of the state area: room for stream expressions, the ring of sample records, the move count, and a slot for each window.
+#![tactic(auto)]
+
 ghost use Rattle.std.specs.Prelude.{◌≡◌, ◌+◌, ◌^◌, ◌<◌, ◌≤◌, nat_abs, length};
 ghost use Rattle.model.specs.Numbers.{le_at, le_bytes, signed};
 ghost use Rattle.model.specs.Records.{record_length, max_windows};

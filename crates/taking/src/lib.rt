@@ -1,5 +1,7 @@
 // A sample whose turn it is goes into every part of the state area. Safe on any bytes; more windows than any list of calls leaves are refused.
 // specs/Effects.antt says what is promised, specs/Damaged.antt has the laws of the areas that stand for no trip.
+#![tactic(auto)]
+
 ghost use Rattle.model.specs.Answers.{answer_of};
 ghost use Rattle.std.specs.Prelude.{true, ◌≡◌};
 ghost use Rattle.model.specs.Records.{in_range};

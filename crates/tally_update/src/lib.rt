@@ -1,5 +1,7 @@
 // A tally in its bytes is brought up to date by a sample, in place. Its numbers are read so that adding cannot wrap, whatever the bytes are: of a count or a distance the
 // low four bytes, of U and extended U the low six.
+#![tactic(auto)]
+
 ghost use Rattle.std.specs.Prelude.{true, ◌≡◌, ◌+◌, ◌*◌, ◌^◌, ◌≤◌, ◌<◌, pos, nat_abs, ◌+ℤ◌, length};
 ghost use Rattle.model.specs.Numbers.{unsigned};
 ghost use Rattle.model.specs.Tallies.{tally_length, words};

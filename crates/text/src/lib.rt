@@ -1,4 +1,6 @@
 // Words and numbers as text, put into a lent buffer.
+#![tactic(auto)]
+
 ghost use Rattle.std.specs.Prelude.{◌≡◌, [], ◌∷◌, ◌++◌, ◌+◌, ◌<◌, ◌≤◌, length};
 ghost use Rattle.model.specs.Report.{digits, decimal, hex_digit, hexadecimal};
 ghost use Rattle.text.specs.Append.{Appended};

@@ -3,6 +3,8 @@
 // unknown kind ends it, which is said on standard error.
 // crates/script/specs says what a script is, crates/replay/specs that, after a clear, the answers are the reference model's, crates/answers/specs what their
 // bytes are.
+#![tactic(auto)]
+
 use libc::{STDERR_FILENO, STDIN_FILENO, STDOUT_FILENO};
 
 fn main() {

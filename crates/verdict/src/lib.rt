@@ -1,10 +1,12 @@
 // The verdict of a trip: the mask of all rules, and the finding.
+#![tactic(auto)]
+
 ghost use Rattle.std.specs.Prelude.{◌≡◌, Bool, List, ◌*◌, ◌≤◌, length};
 ghost use Rattle.model.specs.declared.Sample.{Sample};
 ghost use Rattle.model.specs.Answers.{finding_code};
 ghost use Rattle.model.specs.Records.{max_samples};
 ghost use Rattle.model.specs.Tallies.{tally_of};
-ghost use Rattle.model.specs.Verdicts.{mask, finding as findingOf, verdict_of};
+ghost use Rattle.model.specs.Verdicts.{mask, finding as finding_of, verdict_of};
 ghost use Rattle.limits.specs.Bounds.{BoundedTally};
 ghost use Rattle.tally.specs.Sound.{Sound};
 ghost use Rattle.power.specs.Speeds.{speeds_of, Stored};
@@ -32,7 +34,7 @@ fn broken(t: Tally, speeds: &[u8], n: usize, e: Ends) -> u32
 
 // The lowest broken rule; else exceeded; else clean.
 fn finding(broken: u32, exceeded: bool) -> Finding
-    ensures { (bs : List Bool) → length bs ≤ mask_bits → broken ≡ mask bs → result ≡ findingOf 0 bs exceeded }
+    ensures { (bs : List Bool) → length bs ≤ mask_bits → broken ≡ mask bs → result ≡ finding_of 0 bs exceeded }
 {
     let mut m = broken;
     let mut k: u32 = 0;

@@ -1,4 +1,6 @@
 // The sliding windows: their step as a sample comes, a new window, and the start. Safe on any bytes: numbers are tested before they are used.
+#![tactic(auto)]
+
 ghost use Rattle.std.specs.Prelude.{◌≡◌, [], ◌+◌, ◌≤◌, ◌<◌, ltb, length};
 ghost use Rattle.model.specs.Numbers.{bit};
 ghost use Rattle.model.specs.Records.{record_length, max_windows};

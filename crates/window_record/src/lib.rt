@@ -1,4 +1,6 @@
 // A window record: checked, and its function code.
+#![tactic(auto)]
+
 ghost use Rattle.std.specs.Prelude.{◌≡◌, length};
 ghost use Rattle.model.specs.Records.{record_length, fields_kept};
 ghost use Rattle.window_record.specs.Read.{window_read, function_read};
@@ -6,14 +8,14 @@ ghost use Rattle.window_record.specs.Read.{window_read, function_read};
 use model::{Function, MAX_WIDTH, RECORD_LEN};
 
 // What a window record comes to: it keeps the layout, or the number of the refusal.
-#[derive(Drop)]
+#[derive(Clone, Copy)]
 pub enum WindowRead {
     Kept,
     Refused(u32),
 }
 
 // What a function code comes to.
-#[derive(Drop)]
+#[derive(Clone, Copy)]
 pub enum FunctionRead {
     Function(Function),
     Refused(u32),

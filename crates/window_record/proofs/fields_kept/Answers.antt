@@ -1,0 +1,15 @@
+-- `window_record::fields_kept` meets its contract. Assumes nothing.
+use mathlib.Core.Path.{◌∙◌}
+use mir.Syntax.{w32}
+use mir.ValLaws.{to_z-of_z}
+use Rattle.window_record.proofs.Tests.{field_tests}
+use Rattle.window_record.proofs.fields_kept.Goals as goal
+
+pub returns : goal.returns
+returns c =
+    let low = c.get_i32 in
+    let high = c.get_i32-2 in
+    field_tests _ _ _ _ _ _ _ _ c.get_u8-channel.ensures c.get_u8-condition.ensures c.get_u8-zero.ensures
+    c.get_u16-w.ensures c.get_u16-zeros.ensures
+    (to_z-of_z w32 low.result (record { sfits = low.type_inv }) ∙ low.ensures)
+    (to_z-of_z w32 high.result (record { sfits = high.type_inv }) ∙ high.ensures)

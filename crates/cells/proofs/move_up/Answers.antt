@@ -17,7 +17,7 @@ loop-i-preserved c =
     let w = c.put_u32 in
     let e : p + (l.i + 1) ≡ p + l.i + 1 = omega arith in (
       omega arith,
-      w.auto.0 ∙ l.invariant.1,
+      w.auto.s ∙ l.invariant.1,
       rw e (moved_on _ l.store _ p _ _ g.result (omega arith) (omega arith) (omega arith) g.type_inv g.ensures w.ensures l.invariant.1 l.invariant.2),
     )
 

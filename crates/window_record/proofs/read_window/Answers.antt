@@ -1,6 +1,6 @@
 -- `window_record::read_window` meets its contract. Assumes nothing.
 use borrow.Author.Rules.{rules}
-use mathlib.Core.Path.{sym, ◌∙◌}
+use mathlib.Core.Path.{refl, sym, ◌∙◌}
 use Rattle.window_record.proofs.Answers.{function_refused, function_found, window_length, window_code, window_fields, window_whole}
 use Rattle.window_record.proofs.read_window.Goals as goal
 
@@ -10,14 +10,14 @@ returns-then-r-ne-RECORD_LEN c =
 
 pub returns-in-Refused : goal.returns-in-Refused
 returns-in-Refused c =
-    window_code _ (search rules) (function_refused c.k-1.given.1 c.read_function.ensures c.get_u8.ensures)
+    window_code _ (search rules) (function_refused refl c.in-Refused.ensures c.get_u8.ensures)
 
 pub returns-then-fields_kept : goal.returns-then-fields_kept
 returns-then-fields_kept c =
-    window_whole _ (search rules) (function_found c.f-1.given.1 c.read_function.ensures c.get_u8.ensures).1
+    window_whole _ (search rules) (function_found refl c.in-Function.ensures c.get_u8.ensures).1
     (sym c.fields_kept.ensures ∙ c.if-fields_kept.true)
 
 pub returns-else-fields_kept : goal.returns-else-fields_kept
 returns-else-fields_kept c =
-    window_fields _ (search rules) (function_found c.f-1.given.1 c.read_function.ensures c.get_u8.ensures).1
+    window_fields _ (search rules) (function_found refl c.in-Function.ensures c.get_u8.ensures).1
     (sym c.fields_kept.ensures ∙ c.if-fields_kept.false)

@@ -1,0 +1,8 @@
+-- `lists::clear_list` meets its contract. Assumes nothing.
+use borrow.Author.Rules.{rules}
+use Rattle.lists.specs.Effects.{emptied}
+use Rattle.lists.proofs.clear_list.Goals as goal
+
+pub returns : goal.returns
+returns c =
+    emptied _ _ _ _ (search rules) (search rules) c.slot_put.ensures c.slot_put-2.ensures

@@ -1,0 +1,34 @@
+-- `tally_update::raise` meets its contract: after i turns the first i numbers are raised. Assumes nothing.
+use mathlib.Core.Path.{◌≡◌, refl, sym, ◌∙◌}
+use Prim.Native.Nat.{ℕ, ◌^◌, ◌<◌}
+use native.Mathlib.Omega.{arith}
+use lib.ListN.{length}
+use lib.Seq.{take-length}
+use borrow.Author.Rules.{rules}
+use Rattle.model.specs.Tallies.{words}
+use Rattle.laws.specs.Lists.{all_at}
+use Rattle.field.specs.Part.{put_nil}
+use Rattle.tally_update.specs.Raised.{raised, raised_length}
+use Rattle.tally_update.proofs.Raising.{raise_step}
+use Rattle.tally_update.proofs.raise.Goals as goal
+
+pub loop-i-init : goal.loop-i-init
+unfolding words
+loop-i-init c =
+    (search rules, refl, sym (put_nil _ _))
+
+pub overflow_add-n : goal.overflow_add-n
+overflow_add-n c =
+    let n = all_at (λ (n : ℕ). n < 2 ^ 62) 0 c.args.ns.now c.loop-i.i c.loop-i-test.true c.requires.1 in
+    record { fits = omega arith }
+
+pub loop-i-preserved : goal.loop-i-preserved
+loop-i-preserved c =
+    let p = c.put_u64 in
+    (search rules, p.auto.s ∙ c.loop-i.invariant.1, p.ensures ∙ raise_step _ _ _ _ _ (search rules) c.get_u32-n.ensures c.loop-i.invariant.2)
+
+pub returns : goal.returns
+returns c =
+    let r = raised_length c.args.b.now c.args.at c.args.ns.now in
+    let e : c.loop-i.i ≡ length (raised c.args.b.now c.args.at c.args.ns.now) = omega arith in
+    rw (e, take-length) at c.loop-i.invariant.2

@@ -1,0 +1,11 @@
+-- `area_windows::step_windows` meets its contract. Assumes nothing.
+use mathlib.Core.Path.{refl}
+use Rattle.area.specs.Layout.{lengths, before, place, size, slots_part}
+use Rattle.area.specs.Effects.{lent_changed}
+use Rattle.area_windows.proofs.step_windows.Goals as goal
+
+pub returns : goal.returns
+unfolding place size before lengths
+returns c =
+    let b = c.step in
+    lent_changed _ c.requires.size slots_part _ _ refl refl _ b.new.part b.auto.part b.ensures

@@ -5,14 +5,13 @@
 --     only          and nothing else is
 --     opposite      and the rounded number of −z is that of z with the other sign
 -- Assumes nothing.
-use Rattle.std.specs.Prelude.{Bool, true, false, cond, not, List, [], ◌∷◌, ◌≡◌, refl, ℕ, zero, suc, ◌+◌, ◌-◌, ◌*◌, ◌%◌, ◌≤◌, ◌<◌, ltb, eqb, ℤ, negsuc, neg_ℤ, nat_abs, ◌+ℤ◌, ◌-ℤ◌, ◌*ℤ◌, length}
+use Rattle.std.specs.Prelude.{Bool, true, false, cond, not, ◌≡◌, refl, ℕ, zero, suc, ◌+◌, ◌-◌, ◌*◌, ◌%◌, ◌≤◌, ◌<◌, ltb, eqb, ℤ, negsuc, neg_ℤ, nat_abs, ◌+ℤ◌, ◌-ℤ◌, ◌*ℤ◌}
 use Rattle.std.proofs.lemmas.Bool.{false≢true}
-use Rattle.std.proofs.Math.Option.{some, none-ne-some, some-injective}
 use Rattle.std.proofs.Math.Path.{sym, ap}
-use Rattle.std.proofs.Common.{subst, ◌∙◌, mod-lt, mul-suc, mul-one, mul-zero, zero-mul, arith, ltb-true, ltb-false, lt-ltb}
+use Rattle.std.proofs.Common.{◌∙◌, mod-lt, mul-suc, mul-one, mul-zero, zero-mul, arith, ltb-true, ltb-false, lt-ltb}
 use Rattle.std.proofs.Math.Nat.{suc-mod}
 use Rattle.std.proofs.Math.IntN.{pos, suc_ℤ, pred_ℤ, neg_ℤ-neg_ℤ, suc_ℤ-+ℤ, pred_ℤ-+ℤ, +ℤ_idl, +ℤ_idr, +ℤ_assoc, +ℤ_comm, +ℤ_invr, +ℤ_one, neg_ℤ-+ℤ, zero-*ℤ, suc_ℤ-*ℤ, pred_ℤ-*ℤ, *ℤ_comm, -ℤ-+ℤ_cancel, ℤ_discrete}
-use Rattle.model.specs.Numbers.{bit, floor_div, floor_mod, even, round_half_even, sumℤ}
+use Rattle.model.specs.Numbers.{bit, floor_div, floor_mod, even, round_half_even}
 use Rattle.laws.specs.Signed.{abs_neg}
 use Rattle.laws.specs.Tests.{not_not}
 use Rattle.rounding.specs.Floor.{rest, rest_less, rest_is, doubled, round_is}

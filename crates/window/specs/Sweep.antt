@@ -15,7 +15,7 @@ use Rattle.std.proofs.Math.Seq.{get_or-append_seam}
 use Rattle.field.specs.Cells.{cells}
 use Rattle.model.specs.Numbers.{le_at, sumℤ}
 use Rattle.model.specs.Records.{record_length, max_samples, max_windows, sample_of, in_range, window_of, layout_kept, Window}
-use Rattle.model.specs.Windows.{sample_at, moves}
+use Rattle.model.specs.Windows.{sample_at}
 use Rattle.model.specs.declared.Sample.{Sample}
 use Rattle.cells.specs.Store.{values_of}
 use Rattle.slide.specs.Held.{held_start}

@@ -1,5 +1,4 @@
 -- `acceleration::count_within` meets its contract. Assumes nothing.
-use native.Mathlib.Omega.{arith}
 use Rattle.acceleration.specs.Bound.{bound_in}
 use Rattle.acceleration.specs.Sample.{raised}
 use Rattle.acceleration.proofs.count_within.Goals as goal

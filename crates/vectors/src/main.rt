@@ -28,7 +28,7 @@ fn read_full<R: Read>(input: &mut R, buf: &mut [u8]) -> usize
     done
 }
 
-// Answers that can't be written, and a message, are let go: there is no other place to tell it.
+// Output that can't be written is not told of: whoever compares the answers misses it.
 fn main(rt: HostRuntime) {
     let mut script = [0u8; 262144];
     let mut area = [0u8; area::AREA_LEN];

@@ -11,8 +11,9 @@ the way to which no call stands in a loop.
     way         from the call verdict down to it, each function is called at one
                 place, and no call stands in a loop
     names       the functions that other crates could name are named nowhere but in
-                those calls, and no crate of theirs has another name or is imported
-                from in a group
+                those calls, and no crate of theirs is imported whole or has another
+                name. An import in a group counts as one for each of its names;
+                contracts, attributes and ghost imports are no code and don't count
 
 Then the same of sources with a fault put in: each must be found, by the check that
 is meant for it.
@@ -42,6 +43,7 @@ CLASSES = {'SpeedClass::Urban': 'urban', 'SpeedClass::Rural': 'rural', 'SpeedCla
 
 TOKEN = re.compile(r'[A-Za-z_]\w*(?:\s*::\s*[A-Za-z_]\w*)*|\d[\w.]*|[^\s\w]')
 LOOPS = ('while', 'for', 'loop')
+CONTRACT = ('requires', 'ensures')
 
 
 class Call:
@@ -54,16 +56,16 @@ class Call:
 class Source:
     """What the functions of some crates call, the numbers that stand in each and
     outside of them, who names the table or makes a limit, how often each name is
-    named, and who imports a crate of the way under another name or in a group."""
+    named, and who imports a crate of the way whole or under another name."""
 
     def __init__(self, texts):
         self.functions, self.calls, self.numbers, self.named = set(), [], {}, {}
         self.table, self.limits, self.renamed = set(), set(), set()
-        parsed = [(crate, tokens_of(text)) for crate, text in texts]
+        parsed = [(crate, ungrouped(tokens_of(text))) for crate, text in texts]
         for crate, tokens in parsed:
             self.functions.update(crate + '::' + name for name, _, _ in bodies(tokens))
         for crate, tokens in parsed:
-            self.count_names(crate, tokens)
+            self.count_names(crate, code_of(tokens))
             aliases, rest = imports(tokens), list(tokens)
             for name, at, end in reversed(list(bodies(tokens))):
                 self.read(crate, crate + '::' + name, tokens[at:end], aliases)
@@ -75,7 +77,7 @@ class Source:
             if tokens[at - 1] != 'fn':
                 for name in {token, token.split('::')[-1]}:
                     self.named[name] = self.named.get(name, 0) + 1
-            if token in CRATES_OF_WAY and tokens[at - 1:at] == ['use'] and tokens[at - 2:at - 1] != ['ghost']:
+            if token in CRATES_OF_WAY and tokens[at - 1:at] == ['use']:
                 self.renamed.add(crate)
 
     def note(self, place, tokens):
@@ -125,6 +127,63 @@ def closing(tokens, at):
     raise ValueError('a bracket is not closed')
 
 
+def ungrouped(tokens):
+    """The tokens with an import of its own for each name that is imported in a group,
+    as `use a::b; use a::c as d;` for `use a::{b, c as d};`; ghost imports stay."""
+    found, at = [], 0
+    while at < len(tokens):
+        if tokens[at] == 'use' and tokens[at - 1:at] != ['ghost']:
+            end = tokens.index(';', at)
+            for item in items_of(tokens[at + 1:end]):
+                found += ['use', *item, ';']
+            at = end
+        else:
+            found.append(tokens[at])
+        at += 1
+    return found
+
+
+def items_of(tree):
+    """What one `use` names: the tokens of each name, with what stands behind it (`as b`, `::*`)."""
+    if '{' not in tree:
+        return [tree]
+    at = tree.index('{')
+    head, inner, items, depth = tree[:at], tree[at + 1:closing(tree, at)], [[]], 0
+    for token in inner:
+        depth += (token == '{') - (token == '}')
+        if token == ',' and depth == 0:
+            items.append([])
+        else:
+            items[-1].append(token)
+    path = '::'.join(token for token in head if token != ':')
+    return [under(path, rest) for item in items if item for rest in items_of(item)]
+
+
+def under(path, item):
+    """An item of a group, below the path of the group; `self` is that path."""
+    if path == '':
+        return item
+    if item[0] == 'self':
+        return [path, *item[1:]]
+    return [path, ':', ':', *item] if item[0] == '*' else [path + '::' + item[0], *item[1:]]
+
+
+def code_of(tokens):
+    """The tokens without contracts, attributes and ghost imports."""
+    found, at = [], 0
+    while at < len(tokens):
+        if tokens[at] == 'ghost' and tokens[at + 1:at + 2] == ['use']:
+            at = tokens.index(';', at)
+        elif tokens[at] in CONTRACT:
+            at = closing(tokens, tokens.index('{', at))
+        elif tokens[at] == '#' and '[' in tokens[at + 1:at + 3]:
+            at = closing(tokens, tokens.index('[', at))
+        else:
+            found.append(tokens[at])
+        at += 1
+    return found
+
+
 def bodies(tokens):
     """Of each function its name and the places of its body's tokens, from and to; its
     contract is passed over."""
@@ -133,14 +192,23 @@ def bodies(tokens):
         if tokens[at] != 'fn':
             at += 1
             continue
-        name, at = tokens[at + 1], closing(tokens, at + 2)
+        name, at = tokens[at + 1], closing(tokens, parameters(tokens, at + 2))
         while tokens[at] not in ('{', ';'):
-            at = closing(tokens, at + 1) if tokens[at] in ('requires', 'ensures') else at
+            at = closing(tokens, tokens.index('{', at)) if tokens[at] in CONTRACT else at
             at += 1
         if tokens[at] == '{':
             end = closing(tokens, at)
             yield name, at + 1, end
             at = end
+
+
+def parameters(tokens, at):
+    """The place of the bracket before a function's parameters; generic parameters may stand before it."""
+    depth = 0
+    while tokens[at] != '(' or depth > 0:
+        depth += (tokens[at] == '<') - (tokens[at] == '>' and tokens[at - 1] != '-')
+        at += 1
+    return at
 
 
 def imports(tokens):
@@ -227,6 +295,7 @@ BROKEN = 'let b = broken(t, speeds, n, e);'
 URBAN = 'limits::limit_of(SpeedClass::Urban, t.urban)'
 IN_CLASS = '// Whether a speed is of a class.'
 FIRST = '// The speed of second n goes after the first n.'
+MODEL = 'use model::{'
 WRONG = [
     ('the walk reckons it for each sample', 'power', WALK,
      WALK + ' let s = %s;' % URBAN,
@@ -279,11 +348,11 @@ WRONG = [
     ('a constant has the factor', 'power', FIRST,
      'const SCALE: u64 = 2592;',
      '2592 stands in limits::limit_of, power::(outside its functions)'),
-    ('another crate asks, by an import', 'rule', 'use model::Tally;',
-     'use model::Tally; use limits::limit_of as side; fn f(t: Tally) -> u64 { side(SpeedClass::Urban, t.urban) }',
+    ('another crate asks, by an import', 'rule', MODEL,
+     'use limits::limit_of as side; fn f(t: Tally) -> u64 { side(SpeedClass::Urban, t.urban) } ' + MODEL,
      'limits::limit_of is called by power::limits_of, rule::f'),
-    ('a crate has another name', 'rule', 'use model::Tally;',
-     'use model::Tally; use limits as l; fn f(t: Tally) -> u64 { l::limit_of(SpeedClass::Urban, t.urban) }',
+    ('a crate has another name', 'rule', MODEL,
+     'use limits as l; fn f(t: Tally) -> u64 { l::limit_of(SpeedClass::Urban, t.urban) } ' + MODEL,
      'limit_of is named 4 times and called 3'),
     ('a function is named and not called', 'power', FIRST,
      'fn f() { let side = limits::limit_of; }',
@@ -318,11 +387,11 @@ WRONG = [
     ('the function that judges is named and not called', 'calls', 'VerdictAnswer::Judged(area::judge(',
      'let f = area::judge; VerdictAnswer::Judged(area::judge(',
      'area::judge is named 2 times and called 1'),
-    ('an import in a group', 'rule', 'use model::Tally;',
-     'use model::Tally; use area::{judge};',
-     'a crate of the way is imported whole by rule'),
-    ('a crate under another name', 'rule', 'use model::Tally;',
-     'use model::Tally; use power as p;',
+    ('an import in a group', 'rule', MODEL,
+     'use area::{judge}; ' + MODEL,
+     'area::judge is named 2 times and called 1'),
+    ('a crate under another name', 'rule', MODEL,
+     'use power as p; ' + MODEL,
      'a crate of the way is imported whole by rule'),
     ('a function of the way has another name', 'power', 'fn limits_of(t: Tally)',
      'fn all_limits(t: Tally)',

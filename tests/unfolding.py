@@ -1,4 +1,4 @@
-"""Checks the `unfolding` list of the theorem `marked-cases` in
+"""Checks the `unfolding` list of the theorem `marked_cases` in
 crates/model/specs/Cases.antt: it must name every unfoldable definition that the
 cases compute through, that is, each that is reached by name from `computed` and
 `stated` through the definitions' right sides.  Where one is left out, the prover
@@ -14,9 +14,9 @@ import re
 import sys
 
 SPECS = os.path.join(os.path.dirname(os.path.abspath(__file__)), '..', 'crates', 'model', 'specs')
-CASES, THEOREM, ROOTS = 'Cases', 'marked-cases', ('computed', 'stated')
+CASES, THEOREM, ROOTS = 'Cases', 'marked_cases', ('computed', 'stated')
 
-USE = re.compile(r'^use Rattle·model·specs\.specs\.(\w+)\.\{([^}]*)\}', re.M)
+USE = re.compile(r'^use Rattle\.model\.specs\.(\w+)\.\{([^}]*)\}', re.M)
 DECLARATION = re.compile(r'( *)(unfoldable |abbrev )?(?:pub )?([^\s(]+) :(?: |$)')
 LIST = re.compile(r'^(?:pub )?%s :.*?^unfolding\b(.*?)^%s\b' % (THEOREM, THEOREM), re.M | re.S)
 
@@ -59,8 +59,8 @@ class File:
 
 
 def used(name, equation):
-    """The words on the right side of an equation but those that are bound in it,
-    fields of records and projections."""
+    """The words on the right side of an equation but those that are bound in it
+    and fields of records; of a projection, what it is taken of."""
     words = re.findall(r'[^\s(){},;]+', equation)
     if '=' not in words:
         return set()
@@ -70,14 +70,14 @@ def used(name, equation):
     for binder in re.findall(r'λ([^.]*)\.', equation):
         bound.update(binder.split())
     bound.update(re.findall(r'\blet (\S+) :', equation))
-    return {word for word, after in zip(right, right[1:])
-            if word not in bound and after != '=' and not word.startswith('.')}
+    heads = {word.split('.')[0] for word, after in zip(right, right[1:]) if after != '='}
+    return heads - bound - {''}
 
 
 def says(words, name):
     """Do the words use this name, whole or as an operator between its arguments?"""
-    parts = [part for part in name.split('_') if part]
-    return name in words or ('_' in name and parts != [] and words.issuperset(parts))
+    parts = [part for part in name.split('◌') if part]
+    return name in words or ('◌' in name and parts != [] and words.issuperset(parts))
 
 
 def read_files(folder):

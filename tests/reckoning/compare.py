@@ -5,11 +5,11 @@ and must find them equal to the reckoning's.
 Run: python3 tests/reckoning/compare.py [--lists 300] [--verdicts 20] [--seed 1] ..
 
 It writes a scratch repository of three crates, the model, the equations but for
-the last of them, and these, into a temporary folder, and has `rt must-fail` prove
+the last of them, and these, into a temporary folder, and has `rt all check` prove
 it.  The last equation is also tried with an answer that is wrong, which the prover
-must refuse; this checks its crate again, which is why that is small.  The last line
-is 'N passed, M failed': the equations are proved as a whole or not at all, so M is
-0 or all of them.
+must refuse under `rt must-fail`; this checks its crate again, which is why that is
+small.  The last line is 'N passed, M failed': the equations are proved as a whole
+or not at all, so M is 0 or all of them.
 """
 
 import argparse
@@ -29,14 +29,11 @@ MODEL = os.path.join(ROOT, 'crates', 'model')
 # Definition files, in the order of crates/model/specs/Lib.antt, and the names
 # that the lists themselves use.
 LIBRARY = """\
-use mathlib.Core.Bool.{true, false}
-use mathlib.Core.List.{[], _∷_}
-use mathlib.Core.Path.{_≡_, refl}
-use lib.IntN.{pos, negsuc}
-use Rattle·model.specs.declared.Finding.the-variants.{Rule, Exceeded, Clean}
-use Rattle·model.specs.Trip as trip
-use Rattle·model.specs.Trip.{number, judged, refused, empty}
-use Rattle·model.specs.Blocks.{wrote, unwritten}
+use Rattle.std.specs.Prelude.{true, false, [], ◌∷◌, ◌≡◌, refl, pos, negsuc}
+use Rattle.model.specs.declared.Finding.TheVariants.{Rule, Exceeded, Clean}
+use Rattle.model.specs.Trip as trip
+use Rattle.model.specs.Trip.{number, judged, refused, empty}
+use Rattle.model.specs.Blocks.{wrote, unwritten}
 """
 FILES = ('Numbers', 'Records', 'Windows', 'Rules', 'Verdicts', 'Tallies', 'Refusals',
          'Trip', 'Blocks', 'Report')
@@ -51,7 +48,7 @@ def unfoldable_names(file):
 
 def header_and_unfolding():
     names = {file: unfoldable_names(file) for file in FILES}
-    uses = ''.join('use Rattle·model.specs.%s.{%s}\n' % (file, ', '.join(names[file]))
+    uses = ''.join('use Rattle.model.specs.%s.{%s}\n' % (file, ', '.join(names[file]))
                    for file in FILES)
     return LIBRARY + uses, 'unfolding ' + ' '.join(sum(names.values(), []))
 
@@ -107,13 +104,23 @@ def write_crate(folder, equations, starts):
 def write_repository(folder, equations):
     crates = os.path.join(folder, 'crates')
     shutil.copytree(MODEL, os.path.join(crates, 'model'),
-                    ignore=shutil.ignore_patterns('must-fail'))
+                    ignore=shutil.ignore_patterns('must-fail', 'out'))
     write(os.path.join(folder, 'crates.txt'), 'model:\ncompared: model\nlast: model\n')
     starts = range(0, len(equations), PER_FILE)
     write_crate(os.path.join(crates, 'compared'), equations, starts[:-1])
     write_crate(os.path.join(crates, 'last'), equations, starts[-1:])
     last = len(equations) - 1
     write(os.path.join(crates, 'last', 'must-fail', 'wrong_answer.edit'), wrong_edit(last, *equations[last]))
+
+
+def first_failure(folder):
+    """What the first command says that fails on the scratch repository, or None."""
+    for command in (['rt', 'all', 'check'], ['rt', 'must-fail']):
+        run = subprocess.run(command, cwd=folder, text=True,
+                             stdout=subprocess.PIPE, stderr=subprocess.STDOUT)
+        if run.returncode != 0:
+            return run.stdout
+    return None
 
 
 def main():
@@ -128,13 +135,12 @@ def main():
     equations = all_equations(options)
     with tempfile.TemporaryDirectory() as folder:
         write_repository(folder, equations)
-        run = subprocess.run(['rt', 'must-fail'], cwd=folder, text=True,
-                             stdout=subprocess.PIPE, stderr=subprocess.STDOUT)
+        said = first_failure(folder)
     tried = len(equations) + 1    # the equations and the wrong answer
-    if run.returncode == 0:
+    if said is None:
         print('%d passed, 0 failed' % tried)
         return 0
-    print(run.stdout)
+    print(said)
     print('0 passed, %d failed' % tried)
     return 1
 

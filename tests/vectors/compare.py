@@ -3,7 +3,7 @@ which replays them on the state area, and compares the answers that it writes,
 byte for byte, with the outside reckoning's.  The last line is 'N passed, M
 failed'.
 
-compare.py --files FOLDER: writes the lists that `rt check` runs the program on,
+compare.py --files FOLDER: writes the lists that `rt ci` runs the program on,
 and what it must write, as the files stdin and stdout of the folder.
 
 A call is a kind, a length of eight bytes and as many bytes; an answer is nine bytes: what it

@@ -5,36 +5,38 @@
 ghost use Rattle.std.specs.Prelude.{◌≤◌, length};
 ghost use Rattle.report.specs.Input.{Further};
 
-use libc::{STDERR_FILENO, STDIN_FILENO, STDOUT_FILENO};
+use std::env::FillError;
+use std::io::{Error, Read};
+use std::rt::{Env, Files};
+use std::{fs, str};
 
 // What was read: so many bytes, up to the end of the input or of the buffer; or the input can't be read.
 #[derive(Clone, Copy)]
 enum Input {
     Bytes(usize),
-    Unreadable,
+    Unreadable(Error),
 }
 
 // One read into the buffer behind its first `done` bytes: how many bytes the buffer has then, as many as before at the end of the input.
-fn read_more(fd: i32, buf: &mut [u8], done: usize) -> Input
+fn read_more<R: Read>(input: &mut R, buf: &mut [u8], done: usize) -> Input
     requires { done ≤ length buf.old }
     ensures { Further done (length buf.new) result }
 {
     let end = buf.len();
-    let got = libc::read(fd, &mut buf[done..end]);
-    if got < 0 {
-        return Input::Unreadable;
+    match input.read(&mut buf[done..end]) {
+        Ok(n) => Input::Bytes(done + n),
+        Err(e) => Input::Unreadable(e),
     }
-    Input::Bytes(done + io::count(got, &buf[done..end]))
 }
 
-fn read_all(fd: i32, buf: &mut [u8]) -> Input
+fn read_all<R: Read>(input: &mut R, buf: &mut [u8]) -> Input
     ensures { Further 0 (length buf.new) result }
 {
     let mut done: usize = 0;
     while done < buf.len() {
-        match read_more(fd, buf, done) {
-            Input::Unreadable => {
-                return Input::Unreadable;
+        match read_more(input, buf, done) {
+            Input::Unreadable(e) => {
+                return Input::Unreadable(e);
             }
             Input::Bytes(n) => {
                 if n == done {
@@ -47,43 +49,52 @@ fn read_all(fd: i32, buf: &mut [u8]) -> Input
     Input::Bytes(done)
 }
 
+// The system's words for an error: std's text without the number that it ends with.
+fn words(text: &str) -> &str {
+    match text.split_once(" (os error ") {
+        Some((words, _)) => words,
+        None => text,
+    }
+}
+
+// Tells on standard error what failed and why. Where that can't be written there is no other place to tell it.
+fn tell(rt: &(impl Eprint + Alloc), what: &str, name: &str, error: Error) {
+    let _ = match format!(in rt.alloc(); "{error}") {
+        Ok(text) => eprintln!(rt; "report: {what}{name}: {}", words(text.as_str())),
+        Err(_) => eprintln!(rt; "report: {what}{name}: {error}"),
+    };
+}
+
 // Writes a text to standard output.
-fn write_out(text: &[u8]) {
-    if !io::write_all(STDOUT_FILENO, text) {
-        os::fail(b"report: output not written");
+fn write_out(rt: &(impl Print + Eprint + Alloc), text: &[u8]) {
+    if let Err(e) = rt.write_all(text) {
+        tell(rt, "output not written", "", e);
     }
 }
 
 // Writes the report of a recording.
-fn write_report(input: &[u8]) {
+fn write_report(rt: &(impl Print + Eprint + Alloc), input: &[u8]) {
     let mut area = [0u8; area::AREA_LEN];
     let mut out = [0u8; report_text::TEXT_LEN];
     let end = recording::report(&mut area, input, &mut out);
-    write_out(&out[..end]);
+    write_out(rt, &out[..end]);
 }
 
-// Judges the drive that a descriptor reads; `name` is for messages.
-fn judge(fd: i32, name: &[u8]) {
-    let mut input = [0u8; recording::ENOUGH];
-    match read_all(fd, &mut input) {
-        Input::Bytes(len) => write_report(&input[..len]),
-        Input::Unreadable => {
-            io::write_all(STDERR_FILENO, b"report: cannot read ");
-            os::fail(name);
-        }
+// Judges the drive that a reader gives; `name` is for messages.
+fn judge<R: Read>(rt: &(impl Print + Eprint + Alloc), input: &mut R, name: &str) {
+    let mut buf = [0u8; recording::ENOUGH];
+    match read_all(input, &mut buf) {
+        Input::Bytes(len) => write_report(rt, &buf[..len]),
+        Input::Unreadable(e) => tell(rt, "cannot read ", name, e),
     }
 }
 
 // Judges the drive in a file.
-fn judge_file(name: &[u8]) {
-    let fd = os::open_read(name);
-    if fd < 0 {
-        io::write_all(STDERR_FILENO, b"report: cannot open ");
-        os::fail(name);
-        return;
+fn judge_file(rt: &(impl Files + Print + Eprint + Alloc), name: &str) {
+    match fs::open(rt, name) {
+        Ok(mut file) => judge(rt, &mut file, name),
+        Err(e) => tell(rt, "cannot open ", name, e),
     }
-    judge(fd, name);
-    libc::close(fd);
 }
 
 // Whether two words are the same.
@@ -101,8 +112,9 @@ fn is_same(a: &[u8], b: &[u8]) -> bool {
     true
 }
 
-fn help() {
+fn help(rt: &(impl Print + Eprint + Alloc)) {
     write_out(
+        rt,
         b"usage: report [FILE]
 Judges a recorded drive: reads sample records of 16 bytes, one for each second from 0 on, from FILE or else from standard input.
 It writes three lines:
@@ -118,28 +130,37 @@ What goes wrong is told on standard error, with no report. The exit status is 0 
     );
 }
 
-fn main() {
-    let arguments = os::arg_count();
-    if arguments < 2 {
-        judge(STDIN_FILENO, b"standard input");
+// Whether the program was given an argument of this number; the first after its name is 1.
+fn has_argument(rt: &impl Env, i: usize) -> bool {
+    let mut byte = [0u8; 1];
+    match rt.arg(i, &mut byte) {
+        Err(FillError::NotPresent) => false,
+        _ => true,
+    }
+}
+
+fn main(rt: HostRuntime) {
+    if !has_argument(&rt, 1) {
+        judge(&rt, &mut rt.stdin(), "standard input");
         return;
     }
-    if 2 < arguments {
-        io::write_all(
-            STDERR_FILENO,
-            b"report: one file at most; report --help says more\n",
-        );
+    if has_argument(&rt, 2) {
+        let _ = eprintln!(rt; "report: one file at most; report --help says more");
         return;
     }
-    let mut word = io::buffer();
-    let len = os::arg(1, &mut word);
-    if os::errno() != 0 {
-        os::fail(b"report: the file's name");
+    let mut word = [0u8; 4096];
+    let Ok(len) = rt.arg(1, &mut word) else {
+        let _ = eprintln!(rt; "report: the file's name: File name too long");
         return;
-    }
+    };
     if is_same(&word[..len], b"--help") {
-        help();
-    } else {
-        judge_file(&word[..len]);
+        help(&rt);
+        return;
+    }
+    match str::from_utf8(&word[..len]) {
+        Ok(name) => judge_file(&rt, name),
+        Err(_) => {
+            let _ = eprintln!(rt; "report: the file's name: not UTF-8 text");
+        }
     }
 }

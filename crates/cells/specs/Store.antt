@@ -49,12 +49,3 @@ Put i z s t = (m : ℕ) → i < m → 4 * m ≤ length s → values_of t m ≡ s
 -- from the store s with a hole at p to t with a hole at q: the other values are the same
 abbrev pub Moved : ℕ → ℕ → List ℕ → List ℕ → Type 0
 Moved p q s t = (m : ℕ) → p < m → q < m → 4 * m ≤ length s → without q (values_of t m) ≡ without p (values_of s m)
-
-without_last : (xs : List ℤ) (y : ℤ) → without (length xs) (xs ++ (y ∷ [])) ≡ xs
-unfolding without
-without_last [] y = refl
-without_last (x ∷ xs) y = ap (λ (l : List ℤ). x ∷ l) (without_last xs y)
-
--- a hole at the end
-pub hole_last : (s : List ℕ) (m : ℕ) → without m (values_of s (suc m)) ≡ values_of s m
-hole_last s m = rw (values_more s m) (rw values_length at (without_last (values_of s m) (value_at s m)))

@@ -10,7 +10,8 @@ use lib.ListN.{length, set, take, drop}
 use Rattle.model.specs.Numbers.{bit}
 use Rattle.laws.specs.Lists.{In, without}
 use Rattle.slide.specs.Ordered.{Sorted, insert, remove_one}
-use Rattle.cells.specs.Store.{Moved, Put, values_of, values_length, hole_last}
+use Rattle.cells.specs.Store.{Moved, Put, values_of, values_length}
+use Rattle.cells.proofs.Store.{hole_last}
 use Rattle.search.specs.Place.{place_of, Placed, place_insert, place_found, place_remove, place_without, sorted_without}
 use Rattle.ordered.specs.Kept.{Inserted, Removed, Replaced}
 

@@ -27,7 +27,8 @@ use Rattle.laws.specs.Order.{le_z_trans, lt_z_le_z, lt_z_true}
 use Rattle.laws.specs.Signed.{scaled}
 use Rattle.limits.specs.Class.{in_class_lem}
 use Rattle.limits.specs.Line.{limit_of}
-use Rattle.slide.specs.Percentile.{Upward, passes, percentile_passes}
+use Rattle.slide.specs.Percentile.{Upward, passes}
+use Rattle.slide.proofs.Percentile.{percentile_passes}
 use Rattle.limits.specs.declared.PowerLimit.{PowerLimit}
 use Rattle.acceleration.specs.declared.PerClass.{PerClass}
 use Rattle.acceleration.specs.declared.Counts.{Counts}

@@ -23,7 +23,8 @@ use Rattle.slide.specs.Held.{held_within, reading_first, reading_unheld}
 use Rattle.laws.specs.Lists.{all_at}
 use Rattle.slide.specs.Moves.{counted_moves, moves_bound}
 use Rattle.slide.specs.Percentile.{rank}
-use Rattle.slide.specs.Readings.{needs_values, reading_count, reading_sum, reading_average, reading_percentile, reading_none}
+use Rattle.slide.specs.Readings.{needs_values, reading_count, reading_sum, reading_average, reading_none}
+use Rattle.slide.proofs.Percentile.{reading_percentile}
 use Rattle.slide.specs.Step.{length_values}
 use Rattle.slots.specs.Layout.{part_len, slot_of, moves_of, record_in, code_in, count_in, sum_in, number_of, store_in, value_in}
 use Rattle.lists.specs.Lists.{list_of, number_length, Fitness}

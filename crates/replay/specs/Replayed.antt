@@ -10,7 +10,8 @@ use Rattle.model.specs.Trip.{Trip, empty, Call, clear, Answer, answers, after}
 use Rattle.replay.specs.declared.Progress.{Progress}
 use Rattle.laws.specs.Lists.{All}
 use Rattle.script.specs.Script.{calls, erroneous, script_of}
-use Rattle.script.specs.Encoded.{Encodable, script_calls}
+use Rattle.script.specs.Encoded.{Encodable}
+use Rattle.script.proofs.Encoded.{script_calls}
 use Rattle.answers.specs.Answers.{answer_length, encode, encodes}
 
 -- the calls of a script whose answers have room in so many bytes
@@ -65,7 +66,7 @@ module _ {script s o : List ℕ} {r : Progress} {s' o' : List ℕ} (p : Replayed
     pub replayed_fresh : (take r.written o' ≡ encodes (answers empty (clear ∷ cs))) × Stands s' (after empty (clear ∷ cs))
     replayed_fresh = (p.wrote ∙ ap encodes replayed_claim.answered, (fresh_runs size (rw begins at p.run)).1)
 
-  -- Every list of calls from a fresh area has a script (crates/script/specs/Encoded.antt); replayed to its end, it gives the bytes of the reference model's answers to the list.
+  -- Every list of calls from a fresh area has a script (crates/script/proofs/Encoded.antt); replayed to its end, it gives the bytes of the reference model's answers to the list.
   pub replayed_list : (cs : List Call) → All Encodable (clear ∷ cs) → script ≡ script_of (clear ∷ cs) → length s ≡ area_len → r.ended ≡ true
       → take r.written o' ≡ encodes (answers empty (clear ∷ cs))
   replayed_list cs e is size ended = (replayed_fresh cs (replayed_whole ended ∙ ap calls is ∙ script_calls (clear ∷ cs) e) size).0

@@ -1,2 +1,3 @@
 -- What the functions on scripts rest on.
 mod Number
+pub mod Encoded

@@ -1,8 +1,8 @@
--- What a window reads, from what code keeps of it: the count, the sum, the ordered values. The smallest and the largest are in Held.
---     reading_count, reading_sum, reading_average, reading_percentile
+-- What a window reads, from what code keeps of it: the count and the sum. The smallest and the largest are in Held.
+--     reading_count, reading_sum, reading_average; reading_percentile is in proofs/Percentile
 --     reading_none      with no value, the others have no reading
 -- Assumes nothing.
-use Rattle.std.specs.Prelude.{◌≡◌, refl, List, [], ◌∷◌, Bool, true, false, ◌<◌, ℤ, pos, length, get_or}
+use Rattle.std.specs.Prelude.{◌≡◌, refl, List, [], ◌∷◌, Bool, true, false, ◌<◌, ℤ, pos, length}
 use Rattle.std.proofs.Math.Path.{ap}
 use Rattle.std.proofs.Common.{◌∙◌, arith}
 use Rattle.std.proofs.Math.Option.{none, some}
@@ -14,8 +14,7 @@ use Rattle.model.specs.declared.Function.TheVariants.{Count, Sum, Smallest, Larg
 use Rattle.model.specs.Numbers.{sumℤ, floor_div}
 use Rattle.model.specs.Windows.{values, smallest, largest, average, figure, reading}
 use Rattle.laws.specs.Lists.{length_zero}
-use Rattle.slide.specs.Ordered.{ordered}
-use Rattle.slide.specs.Percentile.{rank, percentile_rank, percentile_empty}
+use Rattle.slide.specs.Percentile.{percentile_empty}
 
 -- the average by the count and the sum
 average_is : (zs : List ℤ) → 0 < length zs → average zs ≡ some (floor_div (sumℤ zs) (length zs))
@@ -42,7 +41,7 @@ figure_none Average e = refl
 figure_none Percentile e = percentile_empty
 
 module _ (w : Window) (ss : List Sample) where
-  by_function : (f : Function) → w.function ≡ f → reading w ss ≡ figure f (values w ss)
+  pub by_function : (f : Function) → w.function ≡ f → reading w ss ≡ figure f (values w ss)
   unfolding reading
   by_function f e = ap (λ (g : Function). figure g (values w ss)) e
 
@@ -57,11 +56,6 @@ module _ (w : Window) (ss : List Sample) where
   pub reading_average : w.function ≡ Average → 0 < length (values w ss) → reading w ss ≡ some (floor_div (sumℤ (values w ss)) (length (values w ss)))
   unfolding figure
   reading_average e h = by_function Average e ∙ average_is (values w ss) h
-
-  pub reading_percentile : (d : ℤ) → w.function ≡ Percentile → 0 < length (values w ss)
-      → reading w ss ≡ some (get_or (ordered (values w ss)) (rank (length (values w ss))) d)
-  unfolding figure
-  reading_percentile d e h = by_function Percentile e ∙ percentile_rank (values w ss) h d
 
   pub reading_none : needs_values w.function ≡ true → length (values w ss) ≡ 0 → reading w ss ≡ none
   unfolding reading

@@ -221,10 +221,6 @@ module _ (w : Window) (ss : List Sample) where
         by true = sum_snoc (staying_values w ss) (channel w.channel s)
         by false = rw append-nil (sym (+ℤ_idr (sumℤ (staying_values w ss))))
 
-    pub sum_step : (s : Sample)
-        → sumℤ (values w (more ss s)) ≡ (sumℤ (values w ss) -ℤ addend (leaves w ss) (leaving w ss)) +ℤ addend (enters w ss s) (channel w.channel s)
-    sum_step s = sum_after_lem s ∙ ap (λ (z : ℤ). z +ℤ addend (enters w ss s) (channel w.channel s)) sum_staying
-
 -- before the first sample
 pub qualifying_start : (w : Window) → qualifying w [] ≡ []
 unfolding qualifying looked_at range filter

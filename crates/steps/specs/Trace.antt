@@ -1,4 +1,4 @@
--- Every list of calls (document 01, "The trip book"; demand 3): what the promises of its calls come to. crates/monitor/specs/Exported.antt has THE THEOREM about the
+-- Every list of calls (document 01, "The trip book"; demand 3): what the promises of its calls come to. crates/monitor/proofs/Exported.antt has THE THEOREM about the
 -- exported functions, which rests on this.
 use Rattle.std.specs.Prelude.{true, List, ◌∷◌, ◌≡◌, refl, ℕ, ◌*◌, ◌≤◌, ◌<◌, length}
 use Rattle.std.proofs.Common.{ap, ◌∙◌, arith}

@@ -26,12 +26,14 @@ use Rattle.cells.specs.Store.{Storable, values_of}
 use Rattle.laws.specs.Tests.{Each, all_each, both}
 use Rattle.record.specs.Ranges.{channel_small, EachInRange}
 use Rattle.slide.specs.Conditions.{qualifies_near}
-use Rattle.slide.specs.Held.{held_stepped, held_unkept, held_length, aged_length}
+use Rattle.slide.specs.Held.{held_unkept, held_length}
+use Rattle.slide.proofs.Held.{held_stepped, aged_length}
+use Rattle.slide.proofs.Step.{sum_step}
 use Rattle.laws.specs.Lists.{all_map, one}
 use Rattle.slide.specs.Moves.{held_in, new_entry, kept_moves, unkept_moves}
 use Rattle.slide.specs.Ordered.{ordered}
 use Rattle.slide.specs.Step.{more, leaves, leaves_now, leaves_not, enters, leaving, staying_values, values_before, values_after, count_before}
-use Rattle.slide.specs.Step.{count_step, sum_step, length_values, sum_bound, qualifies_before, value_before, value_new, addend}
+use Rattle.slide.specs.Step.{count_step, length_values, sum_bound, qualifies_before, value_before, value_new, addend}
 use Rattle.slide.specs.Undisplaced.{aged}
 use Rattle.slots.specs.Effects.{Around, le_around, record_around, around_in, Beside, beside_same, beside_then, Written, written, Totalled}
 use Rattle.slots.specs.Layout.{part_len, ring_seconds, slots_place, slot_len, slot_of, slot_length, count_place, totals_len, first_place, ends_len}

@@ -1,7 +1,7 @@
 -- `area::add_sample` meets its contract. Assumes nothing.
 use mathlib.Core.Path.{refl}
 use Rattle.area.specs.Layout.{lengths, before, place, size, tally_part}
-use Rattle.area.specs.Effects.{lent_changed}
+use Rattle.area.proofs.Effects.{lent_changed}
 use Rattle.area.proofs.add_sample.Goals as goal
 
 pub returns : goal.returns

@@ -1,7 +1,7 @@
 -- `area::append_speed` meets its contract. Assumes nothing.
 use mathlib.Core.Path.{refl}
 use Rattle.area.specs.Layout.{lengths, before, place, size, speeds_part}
-use Rattle.area.specs.Effects.{lent_changed}
+use Rattle.area.proofs.Effects.{lent_changed}
 use Rattle.area.proofs.append_speed.Goals as goal
 
 pub returns : goal.returns

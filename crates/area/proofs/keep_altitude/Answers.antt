@@ -3,7 +3,7 @@ use mathlib.Core.Path.{refl}
 use mir.Syntax.{w16}
 use mir.ValLaws.{to_z-of_z}
 use Rattle.area.specs.Layout.{lengths, before, place, size, altitudes_part}
-use Rattle.area.specs.Effects.{lent_changed}
+use Rattle.area.proofs.Effects.{lent_changed}
 use Rattle.area.proofs.keep_altitude.Goals as goal
 
 pub returns : goal.returns

@@ -1,7 +1,7 @@
 -- `area::number` meets its contract. Assumes nothing.
 use mathlib.Core.Path.{◌∙◌}
 use borrow.Author.Rules.{rules}
-use Rattle.area.specs.Effects.{number_is}
+use Rattle.area.proofs.Effects.{number_is}
 use Rattle.area.proofs.number.Goals as goal
 
 pub returns : goal.returns

@@ -1,6 +1,6 @@
 -- `area::set_number` meets its contract. Assumes nothing.
 use native.Mathlib.Omega.{arith}
-use Rattle.area.specs.Effects.{numbered}
+use Rattle.area.proofs.Effects.{numbered}
 use Rattle.area.proofs.set_number.Goals as goal
 
 pub returns : goal.returns

@@ -1,7 +1,8 @@
 -- `area::write_tally` meets its contract. Assumes nothing.
 use mathlib.Core.Path.{ap, ◌∙◌}
 use Rattle.tally_bytes.specs.Bytes.{tally_length_lem}
-use Rattle.area.specs.Layout.{lengths, before, place, size, tally_part, parts_of, part_put}
+use Rattle.area.specs.Layout.{lengths, before, place, size, tally_part, parts_of}
+use Rattle.area.proofs.Apart.{part_put}
 use Rattle.area.proofs.write_tally.Goals as goal
 
 pub returns : goal.returns

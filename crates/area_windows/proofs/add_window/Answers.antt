@@ -1,7 +1,7 @@
 -- `area_windows::add_window` meets its contract. Assumes nothing.
 use mathlib.Core.Path.{refl}
 use Rattle.area.specs.Layout.{lengths, before, place, size, slots_part}
-use Rattle.area.specs.Effects.{lent_changed}
+use Rattle.area.proofs.Effects.{lent_changed}
 use Rattle.area_windows.proofs.add_window.Goals as goal
 
 pub returns : goal.returns

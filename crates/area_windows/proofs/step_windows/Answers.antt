@@ -1,7 +1,7 @@
 -- `area_windows::step_windows` meets its contract. Assumes nothing.
 use mathlib.Core.Path.{refl}
 use Rattle.area.specs.Layout.{lengths, before, place, size, slots_part}
-use Rattle.area.specs.Effects.{lent_changed}
+use Rattle.area.proofs.Effects.{lent_changed}
 use Rattle.area_windows.proofs.step_windows.Goals as goal
 
 pub returns : goal.returns

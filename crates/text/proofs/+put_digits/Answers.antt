@@ -1,5 +1,4 @@
 -- The ways out of `put_digits`.
-use native.Mathlib.Omega.{arith}
 use borrow.Author.Rules.{rules}
 use Rattle.text.proofs.Laws.{digits_none, digits_one, digits_last}
 use Rattle.text.proofs.+put_digits.Goals as goal

@@ -8,7 +8,7 @@
 --     scaled                           the order is kept by a factor from zero on
 --     cast_fits, cast_is               a number of one width as one of another
 --     widened_fits, widened_is         an i32 as an i64
---     within_positive, size_within     a number from zero to a bound; within-plus: the sum of two
+--     within_positive, size_within     a number from zero to a bound; within_plus: the sum of two
 -- Assumes nothing.
 use Rattle.std.specs.Prelude.{Bool, true, false, cond, ◌≡◌, refl, ℕ, zero, suc, ◌+◌, ◌-◌, ◌*◌, ◌^◌, ◌≤◌, ◌<◌, T, leb, ltb, ℤ, pos, negsuc, neg_ℤ, nat_abs, ◌+ℤ◌, ◌-ℤ◌, ◌*ℤ◌}
 use Rattle.std.proofs.lemmas.Bool.{false≢true}

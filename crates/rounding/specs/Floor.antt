@@ -1,6 +1,6 @@
 -- Floor division, what it leaves, and rounding to the nearest, as code makes them.
 --     mag_below, mag_above                    a number by its `mag`
---     floor_below, floor_above                what the two arms of the floor compute; negsuc-fits: that they fit
+--     floor_below, floor_above                what the two arms of the floor compute; negsuc_fits: that they fit
 --     rest, rest_below, rest_above            what the floor leaves, as the two arms compute it
 --     rest_is, rest_less                      it is the model's `floor_mod`, and below the count
 --     half_fits, even_is                      the test for an odd number

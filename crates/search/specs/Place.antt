@@ -5,7 +5,7 @@
 --     place_probe                   in a list in order each value tells on which side of it the place is
 --     place_insert                  there the value goes in
 --     place_found, place_remove     where the value is one of the list, it stands there, and goes from there
---     place_without                 the place once the value at k has gone; sorted-without: what is left is in order
+--     place_without                 the place once the value at k has gone; sorted_without: what is left is in order
 -- Assumes nothing.
 use Rattle.std.specs.Prelude.{◌≡◌, ◌⊎◌, Bool, cond, ltb, ℤ, pos, nat_abs, ◌-ℤ◌, get_or, take, drop}
 use Rattle.std.proofs.Math.Path.{refl, sym}

@@ -3,7 +3,7 @@
 --     sample_new, value_new                             the new one
 --     leaves, enters                                    the second that goes out of view qualified; the new sample qualifies
 --     staying, staying_values                            the qualifying seconds that stay in view, and their values
---     qualifying_before, qualifying_after               so the seconds before and after; values_before, values-after: the values
+--     qualifying_before, qualifying_after               so the seconds before and after; values_before, values_after: the values
 --     count_step, sum_step                              count and sum, rolled on
 --     length_values, all_values, sum_bound              bounds
 --     qualifying_start, values_start                    before the first sample

@@ -25,7 +25,7 @@ use Rattle.slide.specs.Conditions.{condition_reach}
 abbrev pub expressions_len : ℕ
 expressions_len = 264
 
--- the ring has the last sample records, by second % ringSeconds: those of the widest window, those that a condition looks back to, and the new one
+-- the ring has the last sample records, by second % ring_seconds: those of the widest window, those that a condition looks back to, and the new one
 abbrev pub ring_seconds : ℕ
 ring_seconds = max_width + condition_reach + 1
 

@@ -2,7 +2,7 @@
 --     samples_part ..            the parts by number
 --     Parts, parts_of            what the area holds, part by part
 --     with                      the parts with one of them new
---     part_put, part_lent       a part that is written, or lent, changes itself alone
+--     part_inside               a part lies within the area; part_put and part_lent, of a part that is written or lent, are in proofs/Apart
 -- Assumes nothing.
 use Rattle.std.specs.Prelude.{List, [], ◌∷◌, ◌≡◌, ℕ, zero, suc, ◌+◌, ◌*◌, ◌≤◌, ◌<◌, get_or}
 use Rattle.std.proofs.Math.Bool.{cond}

@@ -4,7 +4,7 @@
 --     leaves, enters                                    the second that goes out of view qualified; the new sample qualifies
 --     staying, staying_values                            the qualifying seconds that stay in view, and their values
 --     qualifying_before, qualifying_after               so the seconds before and after; values_before, values_after: the values
---     count_step, sum_step                              count and sum, rolled on
+--     count_step                                        the count, rolled on; sum_step, of the sum, is in proofs/Step
 --     length_values, all_values, sum_bound              bounds
 --     qualifying_start, values_start                    before the first sample
 -- Assumes nothing.

@@ -13,7 +13,8 @@
  * After a refused sample the trip is as it was: the next record has the same second, and no second can be left out. What stands for a
  * sensor that fails is the caller's choice.
  *
- * Target: the library is for x86-64 and the System V ABI, in 64-bit mode, with SSE2; the toolchain has no other target. The stack is
+ * Target: the library is for x86-64-v2 (a processor with SSE4.2 and POPCNT, which it does not check) and the System V ABI, in 64-bit
+ * mode; `rt lib --cpu=x86-64` makes one that asks for SSE2 alone (rde_tally then takes 113 bytes of stack). The stack is
  * aligned to 16 bytes at a call, as that ABI asks, and the 128 bytes below the stack pointer (the red zone) are used: no interrupt may
  * run on the stack that a call runs on. XMM registers are used: SSE is switched on, and an interrupt that uses them saves them. No C
  * library, no thread-local storage, no floating-point numbers.
@@ -21,13 +22,13 @@
  * address among them (measured, of the library as this toolchain builds it: tests/stack/run):
  *     rde_area_len  8
  *     rde_clear     8
- *     rde_declare   72
- *     rde_sample    304
+ *     rde_declare   56
+ *     rde_sample    312
  *     rde_close     8
  *     rde_read      8
- *     rde_verdict   584
- *     rde_tally     144
- *     rde_join      696
+ *     rde_verdict   376
+ *     rde_tally     73
+ *     rde_join      552
  */
 #ifndef RDE_H
 #define RDE_H
@@ -41,7 +42,7 @@ extern "C" {
 
 /* The version of this interface. It becomes one more when a function, an answer, a record, a tally or the area's format changes: then
  * programs are compiled again, and areas, records and tallies whose layout has changed are used no more. An area whose format has
- * changed has another mark, and is refused with RDE_DAMAGED.
+ * changed has another mark, and is refused with RDE_DAMAGED. Stack figures in this list are of the library as it was built then.
  *     2  rule 21: bit 21 of broken, 21 as a word, RDE_RULES 22; rde_verdict takes 488 bytes of stack, 472 before. The area has another
  *        format: end and judge a trip before the change, since its area is refused then. RDE_AREA_LEN, records and tallies stay.
  *     3  NOx in extended conditions weighs five eighths: a trip that was exceeded may now be within the limit, with the word

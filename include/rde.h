@@ -13,8 +13,8 @@
  * After a refused sample the trip is as it was: the next record has the same second, and no second can be left out. What stands for a
  * sensor that fails is the caller's choice.
  *
- * Target: the library is for x86-64-v2 (a processor with SSE4.2 and POPCNT, which it does not check) and the System V ABI, in 64-bit
- * mode; `rt lib --cpu=x86-64` makes one that asks for SSE2 alone (rde_tally then takes 113 bytes of stack). The stack is
+ * Target: the library is for x86-64 and the System V ABI, in 64-bit mode, with SSE2, as `rt lib --cpu=x86-64` makes it (a plain
+ * `rt lib` makes one for x86-64-v2: SSE4.2 and POPCNT, which it does not check). The stack is
  * aligned to 16 bytes at a call, as that ABI asks, and the 128 bytes below the stack pointer (the red zone) are used: no interrupt may
  * run on the stack that a call runs on. XMM registers are used: SSE is switched on, and an interrupt that uses them saves them. No C
  * library, no thread-local storage, no floating-point numbers.
@@ -27,7 +27,7 @@
  *     rde_close     8
  *     rde_read      8
  *     rde_verdict   376
- *     rde_tally     73
+ *     rde_tally     113
  *     rde_join      552
  */
 #ifndef RDE_H

@@ -1,4 +1,4 @@
-// The product for C: every exported function. include/rde.h declares them; specs/Exported.antt has the theorem about every list of the six calls.
+// The product for C: every exported function. include/rde.h declares them; proofs/Exported.antt has the theorem about every list of the six calls.
 #![tactic(auto)]
 
 ghost use Rattle.std.specs.Prelude.{◌≡◌, length};

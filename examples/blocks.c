@@ -1,5 +1,5 @@
-/* Tallies two blocks of samples and joins them. Build, after `mkdir -p target` and, in crates/monitor, `rt lib --cpu=x86-64`:
- *     gcc -std=c11 -Wall -Wextra -Werror -Iinclude examples/blocks.c crates/monitor/out/libmonitor.a -o target/blocks && target/blocks */
+/* Tallies two blocks of samples and joins them. Build, after tests/staticlib:
+ *     gcc -std=c11 -Wall -Wextra -Werror -Iinclude examples/blocks.c target/staticlib/libmonitor.a -o target/blocks && target/blocks */
 #include <inttypes.h>
 #include <stdio.h>
 

@@ -1,7 +1,7 @@
 /* Judges a recorded drive: reads sample records from a file, shows the readings of three windows every ten minutes, and ends with
  * the verdict in words. At a refused record or a file that it cannot read it stops with a message and exit status 1. Build and run,
- * after `mkdir -p target` and, in crates/monitor, `rt lib --cpu=x86-64`:
- *     gcc -std=c11 -Wall -Wextra -Werror -Iinclude examples/judge.c crates/monitor/out/libmonitor.a -o target/judge
+ * after tests/staticlib:
+ *     gcc -std=c11 -Wall -Wextra -Werror -Iinclude examples/judge.c target/staticlib/libmonitor.a -o target/judge
  *     target/judge examples/drives/clean.drive */
 #include <errno.h>
 #include <inttypes.h>

@@ -70,72 +70,63 @@ fn verdict_reply(a: VerdictAnswer) -> RdeVerdictAnswer
 }
 
 // The length of the state area.
-#[unsafe(no_mangle)]
-pub extern "C" fn rde_area_len() -> usize
+pub fn rde_area_len() -> usize
     ensures { result ≡ area_len }
 {
     area::AREA_LEN
 }
 
 // Makes the area fresh.
-#[unsafe(no_mangle)]
-pub extern "C" fn rde_clear(area: &mut [u8]) -> RdeAnswer
+pub fn rde_clear(area: &mut [u8]) -> RdeAnswer
     ensures { Exported model.clear area.old (plain result) area.new }
 {
     reply(calls::clear(area))
 }
 
 // Declares a window.
-#[unsafe(no_mangle)]
-pub extern "C" fn rde_declare(area: &mut [u8], record: &[u8]) -> RdeAnswer
+pub fn rde_declare(area: &mut [u8], record: &[u8]) -> RdeAnswer
     ensures { Exported (model.declare «record».now) area.old (plain result) area.new }
 {
     reply(record_calls::declare(area, record))
 }
 
 // Takes a sample.
-#[unsafe(no_mangle)]
-pub extern "C" fn rde_sample(area: &mut [u8], record: &[u8]) -> RdeAnswer
+pub fn rde_sample(area: &mut [u8], record: &[u8]) -> RdeAnswer
     ensures { Exported (model.sample «record».now) area.old (plain result) area.new }
 {
     reply(record_calls::sample(area, record))
 }
 
 // Closes the trip.
-#[unsafe(no_mangle)]
-pub extern "C" fn rde_close(area: &mut [u8]) -> RdeAnswer
+pub fn rde_close(area: &mut [u8]) -> RdeAnswer
     ensures { Exported model.close area.old (plain result) area.new }
 {
     reply(calls::close(area))
 }
 
 // Reads a window.
-#[unsafe(no_mangle)]
-pub extern "C" fn rde_read(area: &[u8], window: u32) -> RdeAnswer
+pub fn rde_read(area: &[u8], window: u32) -> RdeAnswer
     ensures { Exported (model.read window) area.now (plain result) area.now }
 {
     reply(calls::read(area, window))
 }
 
 // The verdict on the samples so far.
-#[unsafe(no_mangle)]
-pub extern "C" fn rde_verdict(area: &[u8]) -> RdeVerdictAnswer
+pub fn rde_verdict(area: &[u8]) -> RdeVerdictAnswer
     ensures { Exported model.verdict area.now (judgement result) area.now }
 {
     verdict_reply(calls::verdict(area))
 }
 
 // The tally of a block of sample records.
-#[unsafe(no_mangle)]
-pub extern "C" fn rde_tally(block: &[u8], out: &mut [u8]) -> RdeAnswer
+pub fn rde_tally(block: &[u8], out: &mut [u8]) -> RdeAnswer
     ensures { Told (Writes (tallied block.now (length out.old)) out.old out.new) result }
 {
     reply(tally_calls::tally_block(block, out))
 }
 
 // The tally of two tallies' samples together.
-#[unsafe(no_mangle)]
-pub extern "C" fn rde_join(a: &[u8], b: &[u8], out: &mut [u8]) -> RdeAnswer
+pub fn rde_join(a: &[u8], b: &[u8], out: &mut [u8]) -> RdeAnswer
     ensures { Told (Writes (joined a.now b.now (length out.old)) out.old out.new) result }
 {
     reply(tally_calls::join_tallies(a, b, out))

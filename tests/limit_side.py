@@ -3,9 +3,9 @@ R-3): `limits::limit_of` alone, which a verdict calls once for each class, and o
 the way to which no call stands in a loop.
 
     figures     only limit_of asks for the coefficients of the percentile lines,
-                only the functions that give a figure of the table read it; slopes
-                and intercepts stand in the table alone, 746 in line_of and 2592 in
-                limit_of, which alone makes a PowerLimit
+                only row_of reads the table, and only the functions that give a part
+                of a row ask for one; slopes and intercepts stand in the table alone,
+                746 in line_of and 2592 in limit_of, which alone makes a PowerLimit
     classes     limit_of is called three times in all, by one function, for each
                 class with that class's tally
     way         from the call verdict down to it, each function is called at one
@@ -29,11 +29,11 @@ import sys
 
 CRATES = os.path.join(os.path.dirname(os.path.abspath(__file__)), '..', 'crates')
 SIDE, VERDICT = 'limits::limit_of', 'calls::verdict'
-FIGURE, TABLE = 'limits::figure', 'TABLE'
-READERS = {'limits::' + name for name in ('upper', 'share_low', 'share_high', 'factor', 'slope', 'intercept')}
-CALLERS = {'limits::line_of': {SIDE}, 'limits::factor': {SIDE}, 'limits::slope': {SIDE},
-           'limits::intercept': {SIDE}, FIGURE: READERS}
 OUTSIDE = '(outside its functions)'
+ROW, COEFFICIENTS = 'limits::row_of', 'limits::coefficients_of'
+READERS = {'limits::upper', 'limits::share_of', COEFFICIENTS}
+CALLERS = {'limits::line_of': {SIDE}, COEFFICIENTS: {SIDE}, ROW: READERS}
+TABLES = {'TABLE': {ROW, 'limits::' + OUTSIDE}, 'LINES': {'limits::' + OUTSIDE}}
 FIGURES = {figure: {'limits::' + OUTSIDE} for figure in (136, 144400, 742, 1896600)}
 FIGURES.update({746: {'limits::line_of'}, 2592: {SIDE}})
 LIMIT = 'PowerLimit'
@@ -41,7 +41,7 @@ NAMED = ('limit_of', 'limits_of', 'dynamics_rules', 'verdict::verdict', 'area::j
 CRATES_OF_WAY = ('limits', 'power', 'verdict', 'area', 'calls')
 CLASSES = {'SpeedClass::Urban': 'urban', 'SpeedClass::Rural': 'rural', 'SpeedClass::Motorway': 'motorway'}
 
-TOKEN = re.compile(r'[A-Za-z_]\w*(?:\s*::\s*[A-Za-z_]\w*)*|\d[\w.]*|[^\s\w]')
+TOKEN = re.compile(r'[A-Za-z_]\w*(?:\s*::\s*[A-Za-z_]\w*)*|\d\w*(?:\.\d\w*)?|[^\s\w]')
 LOOPS = ('while', 'for', 'loop')
 CONTRACT = ('requires', 'ensures')
 
@@ -55,12 +55,12 @@ class Call:
 
 class Source:
     """What the functions of some crates call, the numbers that stand in each and
-    outside of them, who names the table or makes a limit, how often each name is
+    outside of them, who names a table or makes a limit, how often each name is
     named, and who imports a crate of the way whole or under another name."""
 
     def __init__(self, texts):
         self.functions, self.calls, self.numbers, self.named = set(), [], {}, {}
-        self.table, self.limits, self.renamed = set(), set(), set()
+        self.tables, self.limits, self.renamed = {name: set() for name in TABLES}, set(), set()
         parsed = [(crate, ungrouped(tokens_of(text))) for crate, text in texts]
         for crate, tokens in parsed:
             self.functions.update(crate + '::' + name for name, _, _ in bodies(tokens))
@@ -81,11 +81,12 @@ class Source:
                 self.renamed.add(crate)
 
     def note(self, place, tokens):
-        """The numbers of a place, and whether it names the table or makes a limit."""
+        """The numbers of a place, and whether it names a table or makes a limit."""
         self.numbers.setdefault(place, set()).update(number(token) for token in tokens if token[0].isdigit())
         last = [token.split('::')[-1] for token in tokens]
-        if TABLE in last:
-            self.table.add(place)
+        for name in TABLES:
+            if name in last:
+                self.tables[name].add(place)
         if any(pair == (LIMIT, '{') and last[at - 1:at] != ['struct'] for at, pair in enumerate(zip(last, last[1:]))):
             self.limits.add(place)
 
@@ -252,7 +253,9 @@ def faults(source):
     for name, callers in CALLERS.items():
         found = {call.caller for call in source.callers(name)}
         yield None if found == callers else '%s is called by %s' % (name, listed(found))
-    yield None if source.table == {FIGURE, 'limits::' + OUTSIDE} else '%s stands in %s' % (TABLE, listed(source.table))
+    for name, places in TABLES.items():
+        found = source.tables[name]
+        yield None if found == places else '%s stands in %s' % (name, listed(found))
     for figure, places in FIGURES.items():
         found = {name for name, numbers in source.numbers.items() if figure in numbers}
         yield None if found == places else '%d stands in %s' % (figure, listed(found))
@@ -303,8 +306,8 @@ WRONG = [
     ('the walk asks for all limits at each sample', 'power', WALK,
      WALK + ' let l = limits_of(t);',
      'power::count_samples calls power::limits_of in a loop'),
-    ('a loop asks in its test', 'power', 'while i < last {',
-     'while limits_of(t).urban.side < i {',
+    ('a loop asks in its test', 'power', 'for i in 1..last {',
+     'for i in 1..limits_of(t).urban.side {',
      'power::count_samples calls power::limits_of in a loop'),
     ('a class is asked for twice', 'power', BOUNDS,
      '%s, %s' % (BOUNDS, URBAN),
@@ -319,26 +322,29 @@ WRONG = [
      URBAN,
      'limits::limit_of is called 0 times for rural'),
     ('another function takes a slope', 'limits', IN_CLASS,
-     'fn f(c: SpeedClass, n: u64) -> u64 { slope(c, 0) * n }',
-     'limits::slope is called by limits::f, limits::limit_of'),
+     'fn f(c: SpeedClass, n: u64) -> u64 { coefficients_of(c, Line::Slow).slope * n }',
+     'limits::coefficients_of is called by limits::f, limits::limit_of'),
     ('another takes an intercept', 'limits', IN_CLASS,
-     'fn f(c: SpeedClass) -> u64 { intercept(c, 0) }',
-     'limits::intercept is called by limits::f, limits::limit_of'),
+     'fn f(c: SpeedClass) -> u64 { coefficients_of(c, Line::Slow).intercept }',
+     'limits::coefficients_of is called by limits::f, limits::limit_of'),
     ('another takes a factor', 'limits', IN_CLASS,
-     'fn f(c: SpeedClass) -> u64 { factor(c, 1) }',
-     'limits::factor is called by limits::f, limits::limit_of'),
+     'fn f(c: SpeedClass) -> u64 { coefficients_of(c, Line::Fast).factor }',
+     'limits::coefficients_of is called by limits::f, limits::limit_of'),
     ('another chooses the line', 'limits', IN_CLASS,
-     'fn f(n: u64, s: Distance) -> usize { line_of(n, s) }',
+     'fn f(n: u64, s: Distance) -> Line { line_of(n, s) }',
      'limits::line_of is called by limits::f, limits::limit_of'),
     ('another reads the figures', 'limits', IN_CLASS,
-     'fn f(c: SpeedClass, n: u64) -> u64 { figure(c, 4) * n }',
-     'limits::figure is called by ' + listed(READERS | {'limits::f'})),
+     'fn f(c: SpeedClass, n: u64) -> u64 { row_of(c).lines[0].slope * n }',
+     'limits::row_of is called by ' + listed(READERS | {'limits::f'})),
     ('another reads the table', 'limits', IN_CLASS,
-     'fn f(j: usize) -> u64 { TABLE[j] }',
-     'TABLE stands in limits::(outside its functions), limits::f, limits::figure'),
-    ('a coefficient has another name', 'limits', 'intercept(c, line) * n',
-     'base(c, line) * n',
-     'limits::intercept is called by nothing'),
+     'fn f(j: usize) -> u64 { TABLE[j].lines[0].slope }',
+     'TABLE stands in limits::(outside its functions), limits::f, limits::row_of'),
+    ('another reads the lines', 'limits', IN_CLASS,
+     'fn f(j: usize) -> u64 { LINES[j].slope }',
+     'LINES stands in limits::(outside its functions), limits::f'),
+    ('the coefficients have another name', 'limits', 'coefficients_of(c, line_of(n, s))',
+     'base(c, line_of(n, s))',
+     'limits::coefficients_of is called by nothing'),
     ('a function has an intercept of its own', 'acceleration', 'if limit.factor == 0 {',
      'let s = 1_896_600u64; if limit.factor == 0 {',
      '1896600 stands in acceleration::bound_of, limits::(outside its functions)'),
@@ -367,25 +373,25 @@ WRONG = [
      'let b = 0;',
      'verdict::broken is called by nothing'),
     ('another names the table', 'limits', IN_CLASS,
-     'fn f(j: usize) -> u64 { crate::TABLE[j] }',
-     'TABLE stands in limits::(outside its functions), limits::f, limits::figure'),
+     'fn f(j: usize) -> u64 { crate::TABLE[j].lines[0].slope }',
+     'TABLE stands in limits::(outside its functions), limits::f, limits::row_of'),
     ('a slope stands elsewhere', 'acceleration', 'if limit.factor == 0 {',
      'let s = 136 * limit.side; if limit.factor == 0 {',
      '136 stands in acceleration::bound_of, limits::(outside its functions)'),
     ('a limit is made elsewhere', 'power', FIRST,
      'fn f(s: u64) -> u64 { let l = limits::PowerLimit { side: 7 * s, factor: 1 }; l.side }',
      'a PowerLimit is made by limits::limit_of, power::f'),
-    ('a loop has a block in its test', 'power', 'while i < last {',
-     'while { i < last } { let l = limits_of(t);',
+    ('a loop has a block in its test', 'power', 'for i in 1..last {',
+     'for i in 1..{ last } { let l = limits_of(t);',
      'power::count_samples calls power::limits_of in a loop'),
-    ('a loop has a struct in its test', 'power', 'while i < last {',
-     'while less(P { a: i }, last) { let l = limits_of(t);',
+    ('a loop has a struct in its test', 'power', 'for i in 1..last {',
+     'for i in 1..less(P { a: n }, last) { let l = limits_of(t);',
      'power::count_samples calls power::limits_of in a loop'),
     ('a string hides a call', 'power', WALK,
      WALK + ' let s = b"//"; let l = limits_of(t);',
      'power::count_samples calls power::limits_of in a loop'),
-    ('the function that judges is named and not called', 'calls', 'VerdictAnswer::Judged(area::judge(',
-     'let f = area::judge; VerdictAnswer::Judged(area::judge(',
+    ('the function that judges is named and not called', 'calls', 'Ok(area::judge(',
+     'let f = area::judge; Ok(area::judge(',
      'area::judge is named 2 times and called 1'),
     ('an import in a group', 'rule', MODEL,
      'use area::{judge}; ' + MODEL,
@@ -399,8 +405,8 @@ WRONG = [
     ('the area is judged in a loop', 'area', 'verdict::verdict(t,',
      'while n < 9 { n = n + 1; } loop { verdict::verdict(t, b, n, e); } verdict::verdict(t,',
      'area::judge calls verdict::verdict in a loop'),
-    ('the call judges twice', 'calls', 'VerdictAnswer::Judged(area::judge(',
-     'let v = area::judge(area, t, n as usize); VerdictAnswer::Judged(area::judge(',
+    ('the call judges twice', 'calls', 'Ok(area::judge(',
+     'let v = area::judge(area, t, n as usize); Ok(area::judge(',
      'area::judge is called 2 times'),
 ]
 

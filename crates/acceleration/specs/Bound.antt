@@ -8,22 +8,10 @@ use Rattle.std.proofs.Common.{sym, ◌∙◌, div-lt_iff_lt-mul, le-div_iff_mul-
 use Rattle.std.proofs.Math.Decide.{dec_lt}
 use Rattle.std.specs.Int.Signed.{lt_z}
 use Rattle.model.specs.declared.SpeedClass.{SpeedClass}
-use Rattle.model.specs.declared.SpeedClass.TheVariants.{Urban, Rural, Motorway}
 use Rattle.limits.specs.declared.PowerLimit.{PowerLimit}
+use Rattle.limits.specs.declared.per_class.PerClass.{PerClass}
+use Rattle.limits.specs.PerClass.{value_in}
 use Rattle.acceleration.specs.declared.Power.{Power}
-use Rattle.acceleration.specs.declared.PowerLimits.{PowerLimits}
-use Rattle.acceleration.specs.declared.PowerBounds.{PowerBounds}
-
--- the limit and the bound of a class
-unfoldable pub limit_in : PowerLimits → SpeedClass → PowerLimit
-limit_in l Urban = l.urban
-limit_in l Rural = l.rural
-limit_in l Motorway = l.motorway
-
-unfoldable pub bound_in : PowerBounds → SpeedClass → Power
-bound_in b Urban = b.urban
-bound_in b Rural = b.rural
-bound_in b Motorway = b.motorway
 
 -- a power beyond a limit
 unfoldable pub beyond : PowerLimit → ℤ → Bool
@@ -37,8 +25,8 @@ most_power = 4294967295
 abbrev pub BoundOf : PowerLimit → Power → Type 0
 BoundOf l b = (p : ℕ) → p ≤ most_power → ltb b.0 p ≡ beyond l (pos p)
 
-abbrev pub BoundsOf : PowerLimits → PowerBounds → Type 0
-BoundsOf l b = (c : SpeedClass) → BoundOf (limit_in l c) (bound_in b c)
+abbrev pub BoundsOf : PerClass PowerLimit → PerClass Power → Type 0
+BoundsOf l b = (c : SpeedClass) → BoundOf (value_in l c) (value_in b c)
 
 -- by the test in whole numbers
 within_limit : (l : PowerLimit) (p : ℕ) → p * l.factor ≤ l.side → beyond l (pos p) ≡ false

@@ -18,13 +18,13 @@ use Rattle.model.specs.Records.{tenths}
 use Rattle.laws.specs.Order.{ltb_leb}
 use Rattle.laws.specs.Tests.{both, not_not}
 use Rattle.limits.specs.declared.PowerLimit.{PowerLimit}
+use Rattle.limits.specs.declared.per_class.PerClass.{PerClass}
+use Rattle.limits.specs.PerClass.{value_in}
 use Rattle.limits.specs.Class.{class_of, same_class}
 use Rattle.acceleration.specs.declared.Rise.{Rise}
 use Rattle.acceleration.specs.declared.Power.{Power}
-use Rattle.acceleration.specs.declared.PowerBounds.{PowerBounds}
-use Rattle.acceleration.specs.declared.PerClass.{PerClass}
 use Rattle.acceleration.specs.declared.Counts.{Counts}
-use Rattle.acceleration.specs.Bound.{bound_in, beyond, BoundOf}
+use Rattle.acceleration.specs.Bound.{beyond, BoundOf}
 
 -- the largest speed of a u16
 abbrev pub most_tenths : ℕ
@@ -128,7 +128,7 @@ module _ (c : SpeedClass) (v next previous : Speed) where
 -- Counts for each class.
 
 -- none is above m
-pub record Most (m : ℕ) (k : PerClass) : Type 0 where
+pub record Most (m : ℕ) (k : PerClass ℕ) : Type 0 where
   pub urban : k.urban ≤ m
   pub rural : k.rural ≤ m
   pub motorway : k.motorway ≤ m
@@ -140,18 +140,18 @@ pub record MostCounts (m : ℕ) (k : Counts) : Type 0 where
 pub most_more : {m n : ℕ} (k : Counts) → m ≤ n → MostCounts m k → MostCounts n k
 most_more {m} {n} k e h = record { accelerating = more h.accelerating; within = more h.within }
   where
-    more : {k : PerClass} → Most m k → Most n k
+    more : {k : PerClass ℕ} → Most m k → Most n k
     more h = record { urban = omega (arith, h.urban); rural = omega (arith, h.rural); motorway = omega (arith, h.motorway) }
 
 -- one more in each class for which a test holds
-unfoldable pub raised : PerClass → (SpeedClass → Bool) → PerClass
+unfoldable pub raised : PerClass ℕ → (SpeedClass → Bool) → PerClass ℕ
 raised k t = record { urban = k.urban + bit (t Urban); rural = k.rural + bit (t Rural); motorway = k.motorway + bit (t Motorway) }
 
 -- a sample counted
-unfoldable pub counted : PowerBounds → Counts → Speed → Rise → Counts
+unfoldable pub counted : PerClass Power → Counts → Speed → Rise → Counts
 counted b k v r = record {
   accelerating = raised k.accelerating (λ c. accelerates c v r);
-  within = raised k.within (λ c. within c (bound_in b c) v r);
+  within = raised k.within (λ c. within c (value_in b c) v r);
 }
 
 abbrev pub no_counts : Counts
@@ -164,7 +164,7 @@ pub bit_most : (b : Bool) → bit b ≤ 1
 bit_most true = omega arith
 bit_most false = omega arith
 
-raised_most : (m : ℕ) (k : PerClass) (t : SpeedClass → Bool) → Most m k → Most (m + 1) (raised k t)
+raised_most : (m : ℕ) (k : PerClass ℕ) (t : SpeedClass → Bool) → Most m k → Most (m + 1) (raised k t)
 unfolding raised
 raised_most m k t h = record {
   urban = omega (arith, h.urban, bit_most (t Urban));
@@ -172,7 +172,7 @@ raised_most m k t h = record {
   motorway = omega (arith, h.motorway, bit_most (t Motorway));
 }
 
-pub counted_most : (m : ℕ) (b : PowerBounds) (k : Counts) (v : Speed) (r : Rise) → MostCounts m k → MostCounts (m + 1) (counted b k v r)
+pub counted_most : (m : ℕ) (b : PerClass Power) (k : Counts) (v : Speed) (r : Rise) → MostCounts m k → MostCounts (m + 1) (counted b k v r)
 unfolding counted
 counted_most m b k v r h = record {
   accelerating = raised_most m k.accelerating _ h.accelerating;
@@ -180,6 +180,6 @@ counted_most m b k v r h = record {
 }
 
 -- the test alone decides
-pub raised_by : (k : PerClass) (s t : SpeedClass → Bool) → ((c : SpeedClass) → s c ≡ t c) → raised k s ≡ raised k t
+pub raised_by : (k : PerClass ℕ) (s t : SpeedClass → Bool) → ((c : SpeedClass) → s c ≡ t c) → raised k s ≡ raised k t
 unfolding raised
 raised_by k s t e = rw (e Urban, e Rural, e Motorway)

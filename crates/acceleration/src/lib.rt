@@ -1,23 +1,15 @@
-// One sample of the walk over the speeds: whether it is accelerating, in which class, and whether its P is beyond the class's line. Each test is a
-// number, 0 or 1, which is counted, so that the compiled walk has no branch on the data and takes several samples at a time.
+// One sample of the walk over the speeds: whether it is accelerating, in which class, and whether its P is beyond the class's line. Each test is
+// counted as a number, 0 or 1, so that the compiled walk has no branch on the data and takes several samples at a time.
 #![tactic(auto)]
 
-ghost use Rattle.std.specs.Prelude.{◌≡◌, ◌*◌, ◌≤◌};
-ghost use Rattle.model.specs.Numbers.{bit};
+ghost use Rattle.std.specs.Prelude.{◌≡◌, Bool, ◌*◌};
+ghost use Rattle.model.specs.declared.SpeedClass.{SpeedClass};
 ghost use Rattle.model.specs.Records.{max_samples, tenths};
-ghost use Rattle.acceleration.specs.Bound.{bound_in, BoundOf, BoundsOf};
+ghost use Rattle.acceleration.specs.Bound.{BoundOf, BoundsOf};
 ghost use Rattle.acceleration.specs.Sample.{acceleration_of, rise_of, accelerates, within, Most, MostCounts, raised, counted, no_counts};
 
-use limits::PowerLimit;
+use limits::{PerClass, PowerLimit};
 use model::{Speed, SpeedClass};
-
-// The limits of the three classes.
-#[derive(Clone, Copy)]
-pub struct PowerLimits {
-    pub urban: PowerLimit,
-    pub rural: PowerLimit,
-    pub motorway: PowerLimit,
-}
 
 // Next speed − previous speed, in tenths of km/h.
 #[derive(Clone, Copy)]
@@ -31,27 +23,12 @@ pub struct Rise(pub u16);
 #[derive(Clone, Copy)]
 pub struct Power(pub u32);
 
-// The largest P that is not beyond the line, for each class.
-#[derive(Clone, Copy)]
-pub struct PowerBounds {
-    pub urban: Power,
-    pub rural: Power,
-    pub motorway: Power,
-}
-
-// A count for each class. Three fields: a struct of two or four u16 is copied as one number, and the walk is then not vectorised.
-#[derive(Clone, Copy)]
-pub struct PerClass {
-    pub urban: u16,
-    pub rural: u16,
-    pub motorway: u16,
-}
-
-// The accelerating samples, and those of them whose P is not beyond the line.
+// The accelerating samples, and those of them whose P is not beyond the line. Of three fields each: a struct of two or four u16 is copied as one
+// number, and the walk is then not vectorised.
 #[derive(Clone, Copy)]
 pub struct Counts {
-    pub accelerating: PerClass,
-    pub within: PerClass,
+    pub accelerating: PerClass<u16>,
+    pub within: PerClass<u16>,
 }
 
 // From this rise on a sample is accelerating.
@@ -74,14 +51,11 @@ fn bound_of(limit: PowerLimit) -> Power
     Power(p as u32)
 }
 
-pub fn bounds_of(l: PowerLimits) -> PowerBounds
-    ensures { BoundsOf l result }
+// The largest P that is not beyond the line, for each class.
+pub fn bounds_of(limits: PerClass<PowerLimit>) -> PerClass<Power>
+    ensures { BoundsOf limits result }
 {
-    PowerBounds {
-        urban: bound_of(l.urban),
-        rural: bound_of(l.rural),
-        motorway: bound_of(l.motorway),
-    }
+    PerClass::of(|c| bound_of(limits.get(c)))
 }
 
 fn acceleration_of(next: Speed, previous: Speed) -> Acceleration
@@ -107,53 +81,37 @@ fn power_of(v: Speed, rise: Rise) -> Power
     Power((v.0 as u32) * (rise.0 as u32))
 }
 
-// 1 for an accelerating sample of the class, else 0.
-fn accelerates_in(c: SpeedClass, v: Speed, rise: Rise) -> u16
-    ensures { (result ≡ bit (accelerates c v rise)) × (result ≤ 1) }
+// Whether a sample is an accelerating one of the class.
+fn accelerates_in(c: SpeedClass, v: Speed, rise: Rise) -> bool
+    ensures { result ≡ accelerates c v rise }
 {
-    (model::bit(limits::in_class(c, v)) * model::bit(LEAST_RISE <= rise.0)) as u16
+    limits::in_class(c, v) & (LEAST_RISE <= rise.0)
 }
 
-// 1 for one of them whose P is not above the bound, else 0.
-fn within_in(c: SpeedClass, bound: Power, v: Speed, rise: Rise) -> u16
-    ensures { (result ≡ bit (within c bound v rise)) × (result ≤ 1) }
+// Whether it is one whose P is not above the bound.
+fn within_in(c: SpeedClass, bound: Power, v: Speed, rise: Rise) -> bool
+    ensures { result ≡ within c bound v rise }
 {
     let p = power_of(v, rise);
-    accelerates_in(c, v, rise) * (model::bit(p.0 <= bound.0) as u16)
+    accelerates_in(c, v, rise) & (p.0 <= bound.0)
 }
 
-fn count_accelerating(k: PerClass, v: Speed, rise: Rise) -> PerClass
-    requires { Most max_samples k }
-    ensures { result ≡ raised k (λ c. accelerates c v rise) }
+// One more in each class for which the test holds.
+fn raise<F: Fn(SpeedClass) -> bool>(k: PerClass<u16>, test: F) -> PerClass<u16>
+    requires { Most max_samples k × ((c : SpeedClass) → F.pre test c) }
+    ensures { (t : SpeedClass → Bool) → ((c : SpeedClass) (b : Bool) → F.post test c b → b ≡ t c) → result ≡ raised k t }
 {
-    PerClass {
-        urban: k.urban + accelerates_in(SpeedClass::Urban, v, rise),
-        rural: k.rural + accelerates_in(SpeedClass::Rural, v, rise),
-        motorway: k.motorway + accelerates_in(SpeedClass::Motorway, v, rise),
-    }
-}
-
-fn count_within(k: PerClass, b: PowerBounds, v: Speed, rise: Rise) -> PerClass
-    requires { Most max_samples k }
-    ensures { result ≡ raised k (λ c. within c (bound_in b c) v rise) }
-{
-    PerClass {
-        urban: k.urban + within_in(SpeedClass::Urban, b.urban, v, rise),
-        rural: k.rural + within_in(SpeedClass::Rural, b.rural, v, rise),
-        motorway: k.motorway + within_in(SpeedClass::Motorway, b.motorway, v, rise),
-    }
+    PerClass::of(|c| k.get(c) + (model::bit(test(c)) as u16))
 }
 
 // The counts with one sample more, which counts in its class if it is accelerating.
-pub fn count_sample(k: Counts, b: PowerBounds, v: Speed, rise: Rise) -> Counts
+pub fn count_sample(k: Counts, b: PerClass<Power>, v: Speed, rise: Rise) -> Counts
     requires { MostCounts max_samples k }
     ensures { result ≡ counted b k v rise }
 {
-    let accelerating = k.accelerating;
-    let within = k.within;
     Counts {
-        accelerating: count_accelerating(accelerating, v, rise),
-        within: count_within(within, b, v, rise),
+        accelerating: raise(k.accelerating, |c| accelerates_in(c, v, rise)),
+        within: raise(k.within, |c| within_in(c, b.get(c), v, rise)),
     }
 }
 

@@ -1,21 +1,17 @@
 -- What the code of this crate works out, one law for each way out. Assumes nothing.
-use mathlib.Core.Bool.{true, false, false≢true}
+use mathlib.Core.Bool.{false}
 use mathlib.Core.List.{List}
-use mathlib.Core.Path.{◌≡◌, refl, sym, ap, ap₂, ◌∙◌}
+use mathlib.Core.Path.{◌≡◌, refl, ap}
 use Prim.Native.Nat.{ℕ, zero, suc, ◌+◌, ◌^◌, ◌≤◌, ◌<◌}
 use native.Mathlib.Omega.{arith}
-use lib.Dec.{leb, leb-suc-suc}
-use lib.IntN.{ℤ, pos, negsuc, nat_abs, ◌-ℤ◌}
+use lib.IntN.{ℤ}
 use lib.ListN.{length}
-use lib.Signed.{le_z, mag}
-use mir.Syntax.{w32, w64}
-use mir.Val.{SFits, to_z, of_z}
-use mir.ValLaws.{to_z-of_z}
+use lib.Signed.{mag}
 use Rattle.model.specs.Numbers.{le_at, signed, unsigned}
 use Rattle.model.specs.Rules.{apart}
 use Rattle.field.specs.Le.{put_le, put_le_length, le_other}
 use Rattle.field.specs.Part.{Apart}
-use Rattle.signed_field.specs.Twos.{signed_same}
+use Rattle.field.specs.Twos.{signed_same}
 use Rattle.altitudes.specs.declared.Ends.{Ends}
 use Rattle.altitudes.specs.Ends.{altitude_len, ends_len, ends_from, with_altitude, ends_rule}
 
@@ -28,28 +24,6 @@ pub some_sample : (n : ℕ) (e : Ends) → (n ≡ 0 → ⊥) → apart e.first e
 unfolding ends_rule
 some_sample zero e h = absurd (h refl)
 some_sample (suc n) e h = refl
-
--- the rise r, of two altitudes as they were handed over, is their difference
-pub rise_is : (a b r : ℤ) → SFits w32 a → SFits w32 b → SFits w64 r → r ≡ to_z w32 (of_z w32 b) -ℤ to_z w32 (of_z w32 a) → to_z w64 (of_z w64 r) ≡ b -ℤ a
-rise_is a b r f g l e = to_z-of_z w64 r l ∙ e ∙ ap₂ ◌-ℤ◌ (to_z-of_z w32 b g) (to_z-of_z w32 a f)
-
--- the size of a difference by its two senses, upwards first
-size_up : (k : ℕ) (z : ℤ) → le_z (pos k) z ≡ true → true ≡ leb k (nat_abs z)
-size_up k (pos n) h = sym h
-size_up k (negsuc n) h = absurd (false≢true h)
-
-size_down : (k : ℕ) (z : ℤ) → le_z (pos (suc k)) z ≡ false → le_z z (negsuc k) ≡ leb (suc k) (nat_abs z)
-size_down k (pos n) h = sym h
-size_down k (negsuc n) h = sym (leb-suc-suc k n)
-
-module _ (a b v : ℤ) (e : v ≡ b -ℤ a) where
-  pub apart_up : le_z (pos 101) v ≡ true → true ≡ apart a b
-  unfolding apart
-  apart_up h = rw (← e) (size_up _ v h)
-
-  pub apart_down : le_z (pos 101) v ≡ false → le_z v (negsuc 100) ≡ apart a b
-  unfolding apart
-  apart_down h = rw (← e) (size_down _ v h)
 
 -- an altitude that is written as the last, and of second 0 as the first too
 module _ (xs : List ℕ) (size : length xs ≡ ends_len) (z : ℤ) (f : mag z < 2 ^ 31) where

@@ -1,7 +1,7 @@
 // The altitudes of a trip's first sample and of its last, which is the latest so far: kept in a part of the state area, and rule 21, which they decide.
 #![tactic(auto)]
 
-ghost use Rattle.std.specs.Prelude.{◌≡◌, ◌-ℤ◌, length};
+ghost use Rattle.std.specs.Prelude.{◌≡◌, length};
 ghost use Rattle.model.specs.Rules.{apart};
 ghost use Rattle.altitudes.specs.Ends.{ends_len, ends_from, Kept, ends_rule};
 
@@ -23,16 +23,17 @@ pub struct Ends {
 }
 
 // The least difference, in metres, that breaks rule 21.
-const TOO_FAR: i64 = 101;
+const TOO_FAR: u32 = 101;
 
 // What the part holds; any bytes mean two numbers.
+#[tactic(auto, unfolding(crate::specs::Ends::ends_from))]
 pub fn read(part: &[u8]) -> Ends
     requires { length part.now ≡ ends_len }
     ensures { result ≡ ends_from part.now }
 {
     Ends {
-        first: signed_field::get_i32(part, FIRST),
-        last: signed_field::get_i32(part, LAST),
+        first: field::get(part, FIRST),
+        last: field::get(part, LAST),
     }
 }
 
@@ -41,30 +42,20 @@ pub fn keep(part: &mut [u8], n: usize, altitude: i16)
     requires { length part.old ≡ ends_len }
     ensures { Kept n altitude part.old part.new }
 {
-    let z = altitude as i32;
-    signed_field::put_i32(part, LAST, z);
+    let z = i32::from(altitude);
+    field::put(part, LAST, z);
     if n != 0 {
         return;
     }
-    signed_field::put_i32(part, FIRST, z);
-}
-
-// The metres from one altitude up to another; below zero where the way is down.
-fn rise(from: i32, to: i32) -> i64
-    ensures { result ≡ to -ℤ from }
-{
-    (to as i64) - (from as i64)
+    field::put(part, FIRST, z);
 }
 
 // Two altitudes that differ by 101 m or more, in either sense.
+#[tactic(auto, unfolding(model::specs::Rules::apart))]
 fn apart(a: i32, b: i32) -> bool
     ensures { result ≡ apart a b }
 {
-    let r = rise(a, b);
-    if TOO_FAR <= r {
-        return true;
-    }
-    r <= -TOO_FAR
+    TOO_FAR <= b.abs_diff(a)
 }
 
 // Rule 21 of n samples with these altitudes; without a sample there are none.

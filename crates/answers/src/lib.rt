@@ -3,59 +3,62 @@
 
 ghost use Rattle.std.specs.Prelude.{◌≡◌, ◌+◌, ◌≤◌, length};
 ghost use Rattle.field.specs.Part.{put};
-ghost use Rattle.model.specs.Answers.{answer_of, verdict_answer_of};
+ghost use Rattle.model.specs.Answers.{answer_by};
 ghost use Rattle.model.specs.Trip as trip;
 ghost use Rattle.answers.specs.Answers.{answer_length, encode};
 
-use model::{Answer, Verdict, VerdictAnswer};
+use model::{Refusal, Verdict};
 
 // Bytes of an answer.
 pub const ANSWER_LEN: usize = 9;
 
-fn put_number(out: &mut [u8], at: usize, z: i64)
-    requires { at + answer_length ≤ length out.old }
-    ensures { out.new ≡ put out.old at (encode (trip.number z)) }
-{
-    field::put_le(out, at, 1, 0);
-    signed_field::put_i64(out, at + 1, z);
+// What an accepted call answers: a number, or the verdict.
+pub trait Told: Copy {
+    // The reference model's answer.
+    ghost told: { Self → trip.Answer };
+
+    // Writes it as bytes.
+    fn put_told(self, out: &mut [u8], at: usize)
+        requires { at + answer_length ≤ length out.old }
+        ensures { out.new ≡ put out.old at (encode (told self)) };
 }
 
-fn put_refusal(out: &mut [u8], at: usize, k: u32)
-    requires { at + answer_length ≤ length out.old }
-    ensures { out.new ≡ put out.old at (encode (trip.refused k)) }
-{
-    field::put_le(out, at, 1, 1);
-    field::put_u64(out, at + 1, k as u64);
-}
+impl Told for i64 {
+    ghost told = { trip.number };
 
-fn put_verdict(out: &mut [u8], at: usize, v: Verdict)
-    requires { at + answer_length ≤ length out.old }
-    ensures { out.new ≡ put out.old at (encode (trip.judged v)) }
-{
-    let f = v.finding;
-    field::put_le(out, at, 1, 2);
-    field::put_u32(out, at + 1, v.broken);
-    field::put_le(out, at + 5, 1, model::bit(v.exceeded) as u64);
-    field::put_le(out, at + 6, 3, verdict::finding_code(f) as u64);
-}
-
-// The answer of a call, but for the verdict.
-pub fn put_answer(out: &mut [u8], at: usize, a: Answer)
-    requires { at + answer_length ≤ length out.old }
-    ensures { out.new ≡ put out.old at (encode (answer_of a)) }
-{
-    match a {
-        Answer::Number(z) => put_number(out, at, z),
-        Answer::Refused(k) => put_refusal(out, at, k),
+    fn put_told(self, out: &mut [u8], at: usize) {
+        field::put::<u8>(out, at, 0);
+        field::put(out, at + 1, self);
     }
 }
 
-pub fn put_verdict_answer(out: &mut [u8], at: usize, a: VerdictAnswer)
+impl Told for Verdict {
+    ghost told = { trip.judged };
+
+    fn put_told(self, out: &mut [u8], at: usize) {
+        field::put::<u8>(out, at, 2);
+        field::put(out, at + 1, self.broken);
+        field::put(out, at + 5, model::bit(self.exceeded) as u8);
+        field::put_le(out, at + 6, 3, u32::from(self.finding) as u64);
+    }
+}
+
+// A refusal by its number, which may be any.
+pub fn put_refusal(out: &mut [u8], at: usize, number: u32)
     requires { at + answer_length ≤ length out.old }
-    ensures { out.new ≡ put out.old at (encode (verdict_answer_of a)) }
+    ensures { out.new ≡ put out.old at (encode (trip.refused number)) }
 {
-    match a {
-        VerdictAnswer::Judged(v) => put_verdict(out, at, v),
-        VerdictAnswer::Refused(k) => put_refusal(out, at, k),
+    field::put::<u8>(out, at, 1);
+    field::put(out, at + 1, u64::from(number));
+}
+
+// The answer of a call.
+pub fn put_answer<T: Told>(out: &mut [u8], at: usize, answer: Result<T, Refusal>)
+    requires { at + answer_length ≤ length out.old }
+    ensures { out.new ≡ put out.old at (encode (answer_by T.told answer)) }
+{
+    match answer {
+        Ok(value) => value.put_told(out, at),
+        Err(refusal) => put_refusal(out, at, u32::from(refusal)),
     }
 }

@@ -2,13 +2,19 @@
 --     lent_changed     part k was lent and came back
 --     numbered         a number of the head is new
 --     number_is        a number of the head, as read
+--     head_number      the numbers of the head in the code's order
 -- Assumes nothing.
 use Rattle.std.specs.Prelude.{List, ◌++◌, ◌≡◌, ℕ, ◌+◌, ◌-◌, ◌*◌, ◌^◌, ◌<◌, length, take, drop}
-use Rattle.std.proofs.Common.{sym, ap, subst, ◌∙◌}
+use Rattle.std.proofs.Common.{refl, arith, sym, ap, subst, ◌∙◌}
 use Rattle.model.specs.Numbers.{le_val, le_at, le_bytes}
 use Rattle.field.specs.Le.{put_le, bytes_length_lem, val_bytes}
 use Rattle.field.specs.Part.{part, put}
 use Rattle.area.specs.Layout.{area_len, number_len, head_numbers, lengths, place, size, parts_of, with}
+use denote.Enum.Declared.{tag_of}
+use Rattle.area.specs.contracts.Head.{the_type}
+use Rattle.area.specs.declared.Head.{Head}
+use Rattle.area.specs.declared.Head.TheVariants.{Samples, Mark, Windows, Format}
+use Rattle.area.specs.Head.{part_of}
 use Rattle.area.specs.Effects.{Changed, changed, lent_part, in_front, Numbered}
 use Rattle.area.proofs.Apart.{part_put, part_lent}
 
@@ -34,3 +40,9 @@ numbered xs ys k n whole h fits e =
     ap parts_of (e ∙ ap (λ (a : ℕ). put xs a (le_bytes number_len n)) (sym f.0)) ∙ part_put xs whole k (le_bytes number_len n) (bytes_length_lem number_len n ∙ sym f.1) in
     let c = changed k (λ l m. le_val m ≡ n) (le_bytes number_len n) (parts_of xs) (parts_of ys) w (val_bytes number_len n fits) in
     record { is = c.is; value = c.by }
+
+pub head_number : (h : Head) → (tag_of the_type h ≡ part_of h) × (part_of h < head_numbers)
+head_number Samples = (refl, omega arith)
+head_number Mark = (refl, omega arith)
+head_number Windows = (refl, omega arith)
+head_number Format = (refl, omega arith)

@@ -2,3 +2,4 @@
 pub mod Layout
 pub mod Stands
 pub mod Effects
+pub mod Head

@@ -2,7 +2,7 @@
 // specs/Layout.antt has the list of the parts.
 #![tactic(auto)]
 
-ghost use Rattle.std.specs.Prelude.{true, ◌≡◌, ◌≤◌, ◌<◌, length};
+ghost use Rattle.std.specs.Prelude.{true, false, ◌≡◌, ◌≢◌, ◌≤◌, ◌<◌, length};
 ghost use Rattle.model.specs.Numbers.{le_val};
 ghost use Rattle.model.specs.Records.{max_samples, in_range};
 ghost use Rattle.model.specs.Tallies.{tally_bytes, tally_from};
@@ -10,28 +10,27 @@ ghost use Rattle.power.specs.Speeds.{Appended};
 ghost use Rattle.altitudes.specs.Ends.{Kept};
 ghost use Rattle.tally.specs.Sound.{Sound as SoundTally};
 ghost use Rattle.tally_update.specs.Raised.{Added};
-ghost use Rattle.area.specs.Layout.{area_len, head_numbers, samples_part, mark_part, windows_part, format_part, tally_part, altitudes_part, speeds_part, parts_of, with, format_number, sample_count, closed_mark, window_count, format_mark, tally_in};
+ghost use Rattle.area.specs.Layout.{area_len, samples_part, mark_part, windows_part, format_part, tally_part, altitudes_part, speeds_part, parts_of, with, format_number, sample_count, closed_mark, window_count, format_mark, tally_in};
+ghost use Rattle.area.specs.Head.{part_of};
 ghost use Rattle.area.specs.Stands.{Judges};
 ghost use Rattle.area.specs.Effects.{Changed, Numbered};
 
 use model::{MAX_SAMPLES, Sample, Speed, TALLY_LEN, Tally, Verdict};
 
-// Bytes of a number of the head, and the numbers by place.
+// Bytes of a number of the head.
 const NUMBER_LEN: usize = 4;
 
-const SAMPLES: usize = 0;
-
-const MARK: usize = 1;
-
-const WINDOWS: usize = 2;
-
-const FORMAT_MARK: usize = 3;
+// The numbers of the head, in their order.
+#[derive(Clone, Copy)]
+enum Head {
+    Samples,
+    Mark,
+    Windows,
+    Format,
+}
 
 // The mark of an area of this format: the bytes "RDE3". It changes with the layout and with what the bytes mean.
 pub const FORMAT: u32 = 0x3345_4452;
-
-// The refusal of an area that is found to stand for no trip; document 01 leaves the number free.
-pub const DAMAGED: u32 = 255;
 
 // The parts behind the head, each behind the one before it.
 const HEAD_LEN: usize = 64;
@@ -47,19 +46,18 @@ pub const SLOTS: usize = SPEEDS + 2 * (MAX_SAMPLES as usize + 1);
 // Bytes of the state area.
 pub const AREA_LEN: usize = SLOTS + slots::PART_LEN;
 
-// The k-th number of the head.
-fn number(area: &[u8], k: usize) -> u32
-    requires { (length area.now ≡ area_len) × (k < head_numbers) }
-    ensures { result ≡ le_val (parts_of area.now k) }
+fn number(area: &[u8], which: Head) -> u32
+    requires { length area.now ≡ area_len }
+    ensures { result ≡ le_val (parts_of area.now (part_of which)) }
 {
-    field::get_u32(area, NUMBER_LEN * k)
+    field::get(area, NUMBER_LEN * which as usize)
 }
 
-fn set_number(area: &mut [u8], k: usize, n: u32)
-    requires { (length area.old ≡ area_len) × (k < head_numbers) }
-    ensures { Numbered k n (parts_of area.old) (parts_of area.new) }
+fn set_number(area: &mut [u8], which: Head, n: u32)
+    requires { length area.old ≡ area_len }
+    ensures { Numbered (part_of which) n (parts_of area.old) (parts_of area.new) }
 {
-    field::put_u32(area, NUMBER_LEN * k, n);
+    field::put(area, NUMBER_LEN * which as usize, n);
 }
 
 // The number of samples.
@@ -67,7 +65,7 @@ pub fn samples(area: &[u8]) -> u32
     requires { length area.now ≡ area_len }
     ensures { result ≡ sample_count (parts_of area.now) }
 {
-    number(area, SAMPLES)
+    number(area, Head::Samples)
 }
 
 // The closed mark: 0 where the trip is open.
@@ -75,7 +73,16 @@ pub fn mark(area: &[u8]) -> u32
     requires { length area.now ≡ area_len }
     ensures { result ≡ closed_mark (parts_of area.now) }
 {
-    number(area, MARK)
+    number(area, Head::Mark)
+}
+
+// The trip is closed.
+pub fn is_closed(area: &[u8]) -> bool
+    requires { length area.now ≡ area_len }
+    ensures closed { result ≡ true → closed_mark (parts_of area.now) ≢ 0 }
+    ensures open { result ≡ false → closed_mark (parts_of area.now) ≡ 0 }
+{
+    mark(area) != 0
 }
 
 // The number of windows.
@@ -83,7 +90,7 @@ pub fn windows(area: &[u8]) -> u32
     requires { length area.now ≡ area_len }
     ensures { result ≡ window_count (parts_of area.now) }
 {
-    number(area, WINDOWS)
+    number(area, Head::Windows)
 }
 
 // The format mark.
@@ -91,35 +98,36 @@ pub fn format(area: &[u8]) -> u32
     requires { length area.now ≡ area_len }
     ensures { result ≡ format_mark (parts_of area.now) }
 {
-    number(area, FORMAT_MARK)
+    number(area, Head::Format)
 }
 
 pub fn set_samples(area: &mut [u8], n: u32)
     requires { length area.old ≡ area_len }
     ensures { Numbered samples_part n (parts_of area.old) (parts_of area.new) }
 {
-    set_number(area, SAMPLES, n);
+    set_number(area, Head::Samples, n);
 }
 
+// The mark is a u32 and no bool, which would ask more of callers.
 pub fn set_mark(area: &mut [u8], m: u32)
     requires { length area.old ≡ area_len }
     ensures { Numbered mark_part m (parts_of area.old) (parts_of area.new) }
 {
-    set_number(area, MARK, m);
+    set_number(area, Head::Mark, m);
 }
 
 pub fn set_windows(area: &mut [u8], k: u32)
     requires { length area.old ≡ area_len }
     ensures { Numbered windows_part k (parts_of area.old) (parts_of area.new) }
 {
-    set_number(area, WINDOWS, k);
+    set_number(area, Head::Windows, k);
 }
 
 pub fn set_format(area: &mut [u8])
     requires { length area.old ≡ area_len }
     ensures { Numbered format_part format_number (parts_of area.old) (parts_of area.new) }
 {
-    set_number(area, FORMAT_MARK, FORMAT);
+    set_number(area, Head::Format, FORMAT);
 }
 
 pub fn read_tally(area: &[u8]) -> Tally

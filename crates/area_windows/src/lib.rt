@@ -11,7 +11,6 @@ ghost use Rattle.area.specs.Effects.{Changed};
 ghost use Rattle.area_windows.specs.Effects.{CountedMoves, Stepping};
 
 use area::{AREA_LEN, SLOTS};
-use reading::Reading;
 
 // The windows take the sample of second n.
 pub fn step_windows(area: &mut [u8], k: usize, n: u16, record: &[u8])
@@ -36,8 +35,8 @@ pub fn clear_windows(area: &mut [u8])
     window::clear(&mut area[SLOTS..AREA_LEN]);
 }
 
-// What window k reads.
-pub fn read_window(area: &[u8], k: usize) -> Reading
+// What window k reads; none where no sample in it qualifies.
+pub fn read_window(area: &[u8], k: usize) -> Option<i64>
     requires { (length area.now ≡ area_len) × (k < max_windows) }
     ensures { Reads k (slots_in (parts_of area.now)) result }
 {

@@ -3,7 +3,7 @@
 --     value_at, values_of             the value in a cell; the values in the first m cells
 --     values_at, values_more        the value in a cell is that of the list; one cell more
 --     values_set                    a cell is written
---     Put, Moved                    what `put`, and what `move_up` and `move_down` do to a store, however many cells are read; hole_last is in proofs/Store
+--     Put, Moved                    what `put` and `move_hole` do to a store, however many cells are read; hole_last is in proofs/Store
 -- Assumes nothing.
 use Rattle.std.specs.Prelude.{◌≡◌, refl, List, [], ◌∷◌, ◌++◌, ℕ, suc, ◌*◌, ◌^◌, ◌≤◌, ◌<◌, ℤ, length, get_or, set}
 use Rattle.std.proofs.Common.{ap, ◌∙◌}

@@ -2,3 +2,4 @@
 pub mod Part
 pub mod Le
 pub mod Cells
+pub mod Twos

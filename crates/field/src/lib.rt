@@ -1,21 +1,21 @@
-// Little-endian fields of a byte slice, unsigned; crate signed_field has the signed ones.
+// Little-endian fields of a byte slice: whole numbers of one to eight bytes, signed in two's complement.
 #![tactic(auto)]
 
-ghost use Rattle.std.specs.Prelude.{◌≡◌, ◌+◌, ◌*◌, ◌≤◌, ◌<◌, ◌^◌, length};
+mod signed;
+mod unsigned;
+
+ghost use Rattle.std.specs.Prelude.{◌≡◌, ℕ, ◌+◌, ◌*◌, ◌≤◌, ◌<◌, ◌^◌, length};
 ghost use Rattle.model.specs.Numbers.{le_at};
 ghost use Rattle.field.specs.Le.{put_le};
 
-// The number in the n bytes from `at`, the lowest first.
+// The number in the n bytes from `at`, the lowest first. n is a parameter: some callers know it at run time alone.
 pub fn get_le(s: &[u8], at: usize, n: usize) -> u64
     requires { (at + n ≤ length s.now) × (n ≤ 8) }
     ensures { (result ≡ le_at n s.now at) × (result < 256 ^ n) }
 {
     let mut v: u64 = 0;
-    let mut i = n;
-    while 0 < i {
-        i -= 1;
-        let b = s[at + i] as u64;
-        v = v * 256 + b;
+    for b in s[at..at + n].iter().rev() {
+        v = v * 256 + u64::from(*b);
     }
     v
 }
@@ -25,62 +25,48 @@ pub fn put_le(s: &mut [u8], at: usize, n: usize, v: u64)
     requires { at + n ≤ length s.old }
     ensures { s.new ≡ put_le n s.old at v }
 {
-    let mut a = at;
-    let mut left = n;
-    let mut x = v;
-    while 0 < left {
-        s[a] = (x % 256) as u8;
-        x = x / 256;
-        a += 1;
-        left -= 1;
+    let mut rest = v;
+    for b in &mut s[at..at + n] {
+        *b = (rest % 256) as u8;
+        rest = rest / 256;
     }
 }
 
-pub fn get_u8(s: &[u8], at: usize) -> u8
-    requires { at + 1 ≤ length s.now }
-    ensures { result ≡ le_at 1 s.now at }
-{
-    s[at]
+// A whole number that stands in a byte slice as a field. Each type has its own impl: none is over all integer types, and no macro may write one.
+pub trait Field {
+    // The bytes of the field, at most eight.
+    const LEN: usize;
+
+    ghost LEN: { ℕ };
+
+    // What the number of these bytes means.
+    ghost value: { ℕ → Self };
+
+    // The number whose bytes mean a value.
+    ghost number: { Self → ℕ };
+
+    fn from_number(n: u64) -> Self
+        requires { n < 256 ^ LEN }
+        ensures { result ≡ value n };
+
+    fn to_number(self) -> u64
+        ensures { result ≡ number self };
+
+    ghost within_u64: { LEN ≤ 8 };
 }
 
-pub fn get_u16(s: &[u8], at: usize) -> u16
-    requires { at + 2 ≤ length s.now }
-    ensures { result ≡ le_at 2 s.now at }
+// The value in the field at `at`.
+pub fn get<T: Field>(s: &[u8], at: usize) -> T
+    requires { at + T.LEN ≤ length s.now }
+    ensures { result ≡ T.value (le_at T.LEN s.now at) }
 {
-    get_le(s, at, 2) as u16
+    T::from_number(get_le(s, at, T::LEN))
 }
 
-pub fn get_u32(s: &[u8], at: usize) -> u32
-    requires { at + 4 ≤ length s.now }
-    ensures { result ≡ le_at 4 s.now at }
+// The value goes to the field at `at`.
+pub fn put<T: Field>(s: &mut [u8], at: usize, v: T)
+    requires { at + T.LEN ≤ length s.old }
+    ensures { s.new ≡ put_le T.LEN s.old at (T.number v) }
 {
-    get_le(s, at, 4) as u32
-}
-
-pub fn get_u64(s: &[u8], at: usize) -> u64
-    requires { at + 8 ≤ length s.now }
-    ensures { result ≡ le_at 8 s.now at }
-{
-    get_le(s, at, 8)
-}
-
-pub fn put_u16(s: &mut [u8], at: usize, v: u16)
-    requires { at + 2 ≤ length s.old }
-    ensures { s.new ≡ put_le 2 s.old at v }
-{
-    put_le(s, at, 2, v as u64)
-}
-
-pub fn put_u32(s: &mut [u8], at: usize, v: u32)
-    requires { at + 4 ≤ length s.old }
-    ensures { s.new ≡ put_le 4 s.old at v }
-{
-    put_le(s, at, 4, v as u64)
-}
-
-pub fn put_u64(s: &mut [u8], at: usize, v: u64)
-    requires { at + 8 ≤ length s.old }
-    ensures { s.new ≡ put_le 8 s.old at v }
-{
-    put_le(s, at, 8, v)
+    put_le(s, at, T::LEN, v.to_number())
 }

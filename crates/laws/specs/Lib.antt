@@ -4,3 +4,4 @@ pub mod Tests
 pub mod Order
 pub mod Sums
 pub mod Signed
+pub mod Functions

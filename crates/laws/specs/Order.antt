@@ -9,7 +9,7 @@ use Rattle.std.proofs.Math.Path.{refl, ap}
 use Rattle.std.proofs.Common.{sym, ◌∙◌, true≢false, arith, leb-true, leb-false, le-leb, le-ltb, lt-ltb}
 use mathlib.Core.List.{List, [], ◌∷◌}
 use Rattle.std.proofs.Math.Logic.{inl, inr}
-use Rattle.std.proofs.Math.Option.{Option, none, some}
+use Rattle.std.specs.Prelude.{Option, None, Some}
 use Rattle.std.proofs.Math.Bool.{true, false}
 use Rattle.std.proofs.lemmas.Bool.{false≢true}
 use Rattle.std.specs.Int.Signed.{le_z, lt_z}
@@ -86,8 +86,8 @@ downwards = record { total = λ a b. le_z_total b a; trans = λ a b c h k. le_z_
 
 -- the first of a list by an order
 unfoldable pub best : (ℤ → ℤ → Bool) → List ℤ → Option ℤ
-best le [] = none
-best le (z ∷ zs) = some (fold (λ a b. cond (le a b) a b) z zs)
+best le [] = None
+best le (z ∷ zs) = Some (fold (λ a b. cond (le a b) a b) z zs)
 
 pub smallest_best : (zs : List ℤ) → smallest zs ≡ best le_z zs
 unfolding smallest best
@@ -124,10 +124,10 @@ module _ (le : ℤ → ℤ → Bool) (order : Order le) where
       rest true = (h.0, h.1.1)
       rest false = h.1
 
-  pub best_is : (v : ℤ) (zs : List ℤ) → In v zs → All (λ z. le v z ≡ true) zs → best le zs ≡ some v
+  pub best_is : (v : ℤ) (zs : List ℤ) → In v zs → All (λ z. le v z ≡ true) zs → best le zs ≡ Some v
   unfolding best In
   best_is v [] i h = absurd i
-  best_is v (z ∷ zs) i h = ap some (fold_is v z zs i h)
+  best_is v (z ∷ zs) i h = ap Some (fold_is v z zs i h)
 
 pub le_z_refl : (a : ℤ) → le_z a a ≡ true
 le_z_refl = order_refl le_z upwards

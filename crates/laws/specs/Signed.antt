@@ -1,10 +1,10 @@
--- Signed numbers: bounds on their size, sums and products that fit a width, and floor division as code makes it.
+-- Signed numbers: bounds on their size, sums and products that fit a width, and floor division as std makes it.
 --     small                            a number that is small either way fits a width
 --     abs_mag                          the size of a number is at most one more than its `mag`, which is what `SFits` bounds
 --     abs_add, abs_sub, abs_mul        the size of a sum, a difference and a product
 --     plus, difference, product        what the code's sum, difference and product of small numbers is, and that it fits
 --     less_fits, rolled_fits           a sum from which one value goes and to which one comes
---     floor_below, floor_above         what the two arms of a floor division compute; flip_fits, quot_fits: that they fit
+--     floor_euclid                     floor division as std makes it
 --     scaled                           the order is kept by a factor from zero on
 --     cast_fits, cast_is               a number of one width as one of another
 --     widened_fits, widened_is         an i32 as an i64
@@ -15,7 +15,7 @@ use Rattle.std.proofs.lemmas.Bool.{false≢true}
 use Rattle.std.proofs.Common.{ap, ap₂, subst, ◌∙◌, div-le_self, mul-le-mul, mul-le-mul_left, arith, leb-true, le-leb, le-ltb, ltb-true}
 use Rattle.std.proofs.Math.IntN.{sub_ℕ}
 use Rattle.std.specs.Int.Signed.{le_z, lt_z, mag, quot_z}
-use Rattle.std.specs.Int.{Width, w32, w64}
+use Rattle.std.specs.Int.{Width, w32, w64, int_div_euclid}
 use mir.Val.{SFits, of_z, to_z, hbits}
 use Rattle.std.proofs.lemmas.Int.{to_z-of_z, to_z_pos}
 use Rattle.model.specs.Numbers.{withinℤ, floor_div}
@@ -117,42 +117,11 @@ module _ (z a : ℤ) {m : ℕ} (hz : nat_abs z ≤ m) (fits : m < 2 ^ 62) (ha : 
 
 -- Floor division.
 
--- −1 − z
-abbrev flip : ℤ → ℤ
-flip (pos n) = negsuc n
-flip (negsuc n) = pos n
-
-flip_is : (z : ℤ) → negsuc 0 -ℤ z ≡ flip z
-flip_is (pos zero) = refl
-flip_is (pos (suc n)) = ap negsuc (omega arith)
-flip_is (negsuc n) = rw (le-ltb (suc n) 1 (omega arith)) (ap pos (omega arith))
-
-pub flip_fits : (z : ℤ) → SFits w64 z → SFits w64 (negsuc 0 -ℤ z)
-flip_fits z f = rw (flip_is z) (by z f)
-  where
-    by : (z : ℤ) → SFits w64 z → SFits w64 (flip z)
-    by (pos n) f = record { sfits = f.sfits }
-    by (negsuc n) f = record { sfits = f.sfits }
-
--- the quotient of a number from zero on
-pub quot_fits : (z : ℤ) (n : ℕ) → lt_z z (pos 0) ≡ false → SFits w64 z → SFits w64 (quot_z z (pos n))
-quot_fits (pos a) n e f = record { sfits = omega (arith, f.sfits, div-le_self a n) }
-quot_fits (negsuc a) n e f = absurd (subst T e tt)
-
-pub flip_above : (z : ℤ) → lt_z z (pos 0) ≡ true → lt_z (negsuc 0 -ℤ z) (pos 0) ≡ false
-flip_above (pos a) e = absurd (omega (arith, ltb-true a 0 e))
-flip_above (negsuc a) e = rw (flip_is (negsuc a)) (le-ltb a 0 (omega arith))
-
--- what the two arms compute
-pub floor_below : (z : ℤ) (n : ℕ) → lt_z z (pos 0) ≡ true → negsuc 0 -ℤ quot_z (negsuc 0 -ℤ z) (pos n) ≡ floor_div z n
+-- std's quotient whose remainder is not negative, by a count
+pub floor_euclid : (z : ℤ) (n : ℕ) → int_div_euclid z (pos n) ≡ floor_div z n
 unfolding floor_div
-floor_below (pos a) n e = absurd (omega (arith, ltb-true a 0 e))
-floor_below (negsuc a) n e = simp flip_is
-
-pub floor_above : (z : ℤ) (n : ℕ) → lt_z z (pos 0) ≡ false → quot_z z (pos n) ≡ floor_div z n
-unfolding floor_div
-floor_above (pos a) n e = refl
-floor_above (negsuc a) n e = absurd (subst T e tt)
+floor_euclid (pos a) n = refl
+floor_euclid (negsuc a) n = refl
 
 -- The order is kept by a factor from zero on.
 

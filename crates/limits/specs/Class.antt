@@ -1,5 +1,5 @@
 -- The class of a speed: the one class that document 01's `in_class` holds of. Assumes nothing.
-use Rattle.std.specs.Prelude.{◌≡◌, refl, Bool, true, false, cond, leb, eqb}
+use Rattle.std.specs.Prelude.{◌≡◌, refl, Bool, true, false, cond, leb}
 use Rattle.std.proofs.Common.{arith, leb-true, leb-false, le-ltb, lt-ltb}
 use Rattle.model.specs.declared.Sample.{Sample}
 use Rattle.model.specs.declared.Speed.{Speed}
@@ -7,7 +7,6 @@ use Rattle.model.specs.declared.SpeedClass.{SpeedClass}
 use Rattle.model.specs.declared.SpeedClass.TheVariants.{Urban, Rural, Motorway}
 use Rattle.model.specs.Records.{tenths}
 use Rattle.model.specs.Rules.{in_class, speed}
-use Rattle.limits.specs.Table.{class_index}
 
 unfoldable pub class_of : Speed → SpeedClass
 class_of v = cond (leb (tenths v) 600) Urban (cond (leb (tenths v) 900) Rural Motorway)
@@ -22,19 +21,6 @@ same_class Rural Motorway = false
 same_class Motorway Urban = false
 same_class Motorway Rural = false
 same_class Motorway Motorway = true
-
--- classes are the same where their numbers are
-pub same_index : (c d : SpeedClass) → eqb (class_index c) (class_index d) ≡ same_class c d
-unfolding same_class
-same_index Urban Urban = refl
-same_index Urban Rural = refl
-same_index Urban Motorway = refl
-same_index Rural Urban = refl
-same_index Rural Rural = refl
-same_index Rural Motorway = refl
-same_index Motorway Urban = refl
-same_index Motorway Rural = refl
-same_index Motorway Motorway = refl
 
 pub in_class_lem : (c : SpeedClass) (s : Sample) → in_class c s ≡ same_class c (class_of s.speed)
 unfolding in_class class_of same_class

@@ -2,3 +2,4 @@ pub mod Table
 pub mod Class
 pub mod Line
 pub mod Bounds
+pub mod PerClass

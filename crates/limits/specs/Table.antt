@@ -1,10 +1,14 @@
 -- The figures of a class, in the order of the table's rows: the upper speed, the least and the most share in percent, and of each of the two
 -- percentile lines factor, slope and intercept; and the largest of them, with the longest distance of a trip. Assumes nothing.
-use Rattle.std.specs.Prelude.{List, [], ◌∷◌, ℕ, ◌+◌, ◌*◌, ◌≤◌, get_or}
+use Rattle.std.specs.Prelude.{◌≡◌, refl, [], ◌∷◌, ℕ, ◌*◌, ◌≤◌}
 use Rattle.std.proofs.Common.{arith}
 use Rattle.model.specs.declared.SpeedClass.{SpeedClass}
 use Rattle.model.specs.declared.SpeedClass.TheVariants.{Urban, Rural, Motorway}
-use Rattle.model.specs.Records.{max_samples}
+use Rattle.model.specs.Records.{max_samples, tenths}
+use Rattle.limits.specs.declared.Line.{Line}
+use Rattle.limits.specs.declared.Line.TheVariants.{Slow, Fast}
+use Rattle.limits.specs.declared.Coefficients.{Coefficients}
+use Rattle.limits.specs.declared.Row.{Row}
 
 -- no class goes beyond 300 km/h
 abbrev pub most_speed : ℕ
@@ -24,54 +28,63 @@ most_slope = 742
 abbrev pub most_intercept : ℕ
 most_intercept = 1896600
 
-abbrev pub class_index : SpeedClass → ℕ
-class_index Urban = 0
-class_index Rural = 1
-class_index Motorway = 2
+-- a line of a class: its factor, slope and intercept, the same for each class
+abbrev pub line_figures : Line → Coefficients
+line_figures Slow = record { factor = 10000; slope = 136; intercept = 144400 }
+line_figures Fast = record { factor = most_factor; slope = most_slope; intercept = most_intercept }
 
--- the lines are the same for each class
-unfoldable pub lines : List ℕ
-lines = 10000 ∷ 136 ∷ 144400 ∷ most_factor ∷ most_slope ∷ most_intercept ∷ []
+-- a class's row: the upper speed, the least and the most share, and the two lines
+abbrev row : ℕ → ℕ → ℕ → Row
+row upper low high = record {
+  upper = record { 0 = upper };
+  share = record { low = low; high = high };
+  lines = line_figures Slow ∷ line_figures Fast ∷ [];
+}
 
--- the upper speed, the least and the most share
-abbrev own : SpeedClass → ℕ × (ℕ × ℕ)
-own Urban = (600, (29, 44))
-own Rural = (900, (23, 43))
-own Motorway = (most_speed, (23, 43))
+unfoldable pub row_of : SpeedClass → Row
+row_of Urban = row 600 29 44
+row_of Rural = row 900 23 43
+row_of Motorway = row most_speed 23 43
 
-unfoldable pub row : SpeedClass → List ℕ
-row c = (own c).0 ∷ (own c).1.0 ∷ (own c).1.1 ∷ lines
+pub row_lines : (c : SpeedClass) → (row_of c).lines ≡ line_figures Slow ∷ line_figures Fast ∷ []
+unfolding row_of
+row_lines Urban = refl
+row_lines Rural = refl
+row_lines Motorway = refl
 
-unfoldable pub figure : SpeedClass → ℕ → ℕ
-figure c j = get_or (row c) j 0
+-- a fact about a class, shown for each of the three
+pub by_class : {P : Type 0} (c : SpeedClass) → (c ≡ Urban → P) → (c ≡ Rural → P) → (c ≡ Motorway → P) → P
+by_class Urban u r m = u refl
+by_class Rural u r m = r refl
+by_class Motorway u r m = m refl
 
 abbrev pub upper : SpeedClass → ℕ
-upper c = figure c 0
+upper c = tenths (row_of c).upper
 
 abbrev pub share_low : SpeedClass → ℕ
-share_low c = figure c 1
+share_low c = (row_of c).share.low
 
 abbrev pub share_high : SpeedClass → ℕ
-share_high c = figure c 2
+share_high c = (row_of c).share.high
 
-abbrev pub factor : SpeedClass → ℕ → ℕ
-factor c line = figure c (3 + 3 * line)
+unfoldable pub coefficients_of : SpeedClass → Line → Coefficients
+coefficients_of c line = line_figures line
 
-abbrev pub slope : SpeedClass → ℕ → ℕ
-slope c line = figure c (4 + 3 * line)
-
-abbrev pub intercept : SpeedClass → ℕ → ℕ
-intercept c line = figure c (5 + 3 * line)
+-- none is above the largest
+pub record Most (k : Coefficients) : Type 0 where
+  pub factor : k.factor ≤ most_factor
+  pub slope : k.slope ≤ most_slope
+  pub intercept : k.intercept ≤ most_intercept
 
 pub upper_most : (c : SpeedClass) → upper c ≤ most_speed
-unfolding figure row
+unfolding row_of
 upper_most Urban = omega arith
 upper_most Rural = omega arith
 upper_most Motorway = omega arith
 
 -- a share is a percentage
 pub share_most : (c : SpeedClass) → (share_low c ≤ 100) × (share_high c ≤ 100)
-unfolding figure row
+unfolding row_of
 share_most Urban = (omega arith, omega arith)
 share_most Rural = (omega arith, omega arith)
 share_most Motorway = (omega arith, omega arith)

@@ -3,19 +3,77 @@
 
 ghost use Rattle.std.specs.Prelude.{◌≡◌, ◌*◌, ◌^◌, ◌≤◌, ◌<◌};
 ghost use Rattle.model.specs.Records.{max_samples, tenths, units, travelled};
-ghost use Rattle.limits.specs.Table.{most_factor, most_slope, most_intercept};
-ghost use Rattle.limits.specs.Table.{figure, class_index, upper, share_low, share_high, factor, slope, intercept};
+ghost use Rattle.limits.specs.Table.{row_of, upper, share_low, share_high, coefficients_of, Most};
 ghost use Rattle.limits.specs.Class.{class_of, same_class};
 ghost use Rattle.limits.specs.Line.{line_of, limit_of};
 ghost use Rattle.limits.specs.Bounds.{BoundedClass};
 
-use model::{ClassTally, Distance, Speed, SpeedClass};
+mod per_class;
 
-// A row for each class: the upper speed, the least and the most share of the distance in percent, and for each of the two percentile lines
-// factor, slope and intercept.
-const TABLE: [u64; 27] = [
-    600, 29, 44, 10000, 136, 144400, 100000, 742, 1896600, 900, 23, 43, 10000, 136, 144400, 100000,
-    742, 1896600, 3000, 23, 43, 10000, 136, 144400, 100000, 742, 1896600,
+use model::{ClassTally, Distance, Speed, SpeedClass};
+pub use per_class::PerClass;
+
+// The two percentile lines: up to a mean of 74.6 km/h, and above it.
+#[derive(Clone, Copy)]
+enum Line {
+    Slow,
+    Fast,
+}
+
+// The coefficients of a percentile line: factor × P95 × N against 2592 × (slope × S + intercept × N).
+#[derive(Clone, Copy)]
+struct Coefficients {
+    factor: u64,
+    slope: u64,
+    intercept: u64,
+}
+
+// The least and the most share of a class in the distance, in percent.
+#[derive(Clone, Copy)]
+pub struct Share {
+    pub low: u64,
+    pub high: u64,
+}
+
+// What the table has for a class: the highest speed, the share, and the coefficients of each line.
+#[derive(Clone, Copy)]
+struct Row {
+    upper: Speed,
+    share: Share,
+    lines: [Coefficients; 2],
+}
+
+// The lines are the same for each class.
+const LINES: [Coefficients; 2] = [
+    Coefficients {
+        factor: 10000,
+        slope: 136,
+        intercept: 144400,
+    },
+    Coefficients {
+        factor: 100000,
+        slope: 742,
+        intercept: 1896600,
+    },
+];
+
+// A row for each class, in the order of `SpeedClass`.
+const TABLE: [Row; 3] = [
+    Row {
+        upper: Speed(600),
+        share: Share { low: 29, high: 44 },
+        lines: LINES,
+    },
+    Row {
+        upper: Speed(900),
+        share: Share { low: 23, high: 43 },
+        lines: LINES,
+    },
+    Row {
+        upper: Speed(3000),
+        share: Share { low: 23, high: 43 },
+        lines: LINES,
+    },
 ];
 
 // The two sides of rules 18 to 20 for a class: P95 is beyond the line where side < factor × P95.
@@ -27,29 +85,17 @@ pub struct PowerLimit {
     pub factor: u64,
 }
 
-fn class_index(c: SpeedClass) -> usize
-    ensures { (result ≡ class_index c) × (result < 3) }
+fn row_of(c: SpeedClass) -> Row
+    ensures { result ≡ row_of c }
 {
-    match c {
-        SpeedClass::Urban => 0,
-        SpeedClass::Rural => 1,
-        SpeedClass::Motorway => 2,
-    }
-}
-
-// Figure j of a class.
-fn figure(c: SpeedClass, j: usize) -> u64
-    requires { j < 9 }
-    ensures { result ≡ figure c j }
-{
-    TABLE[9 * class_index(c) + j]
+    TABLE[c as usize]
 }
 
 // The highest speed of a class.
 pub fn upper(c: SpeedClass) -> Speed
     ensures { tenths result ≡ upper c }
 {
-    Speed(figure(c, 0) as u16)
+    row_of(c).upper
 }
 
 // What one second at a speed covers: the one way from a speed to a distance.
@@ -59,39 +105,18 @@ pub fn travelled(v: Speed) -> Distance
     Distance(v.0 as u64)
 }
 
-// The least and the most share of a class in the distance, in percent.
-pub fn share_low(c: SpeedClass) -> u64
-    ensures { result ≡ share_low c }
+// The share of a class in the distance.
+pub fn share_of(c: SpeedClass) -> Share
+    ensures { (result.low ≡ share_low c) × (result.high ≡ share_high c) }
 {
-    figure(c, 1)
+    row_of(c).share
 }
 
-pub fn share_high(c: SpeedClass) -> u64
-    ensures { result ≡ share_high c }
+// The coefficients of a percentile line of a class.
+fn coefficients_of(c: SpeedClass, line: Line) -> Coefficients
+    ensures { (result ≡ coefficients_of c line) × Most result }
 {
-    figure(c, 2)
-}
-
-// The coefficients of a percentile line of a class: factor × P95 × N against 2592 × (slope × S + intercept × N).
-fn factor(c: SpeedClass, line: usize) -> u64
-    requires { line < 2 }
-    ensures { (result ≡ factor c line) × (result ≤ most_factor) }
-{
-    figure(c, 3 + 3 * line)
-}
-
-fn slope(c: SpeedClass, line: usize) -> u64
-    requires { line < 2 }
-    ensures { (result ≡ slope c line) × (result ≤ most_slope) }
-{
-    figure(c, 4 + 3 * line)
-}
-
-fn intercept(c: SpeedClass, line: usize) -> u64
-    requires { line < 2 }
-    ensures { (result ≡ intercept c line) × (result ≤ most_intercept) }
-{
-    figure(c, 5 + 3 * line)
+    row_of(c).lines[line as usize]
 }
 
 fn class_of(v: Speed) -> SpeedClass
@@ -112,15 +137,18 @@ fn class_of(v: Speed) -> SpeedClass
 pub fn in_class(c: SpeedClass, v: Speed) -> bool
     ensures { result ≡ same_class c (class_of v) }
 {
-    class_index(c) == class_index(class_of(v))
+    c == class_of(v)
 }
 
-// Line 0 up to a mean of 74.6 km/h, line 1 above it.
-fn line_of(samples: u64, distance: Distance) -> usize
+fn line_of(samples: u64, distance: Distance) -> Line
     requires { samples ≤ max_samples }
-    ensures { (result ≡ line_of samples (units distance)) × (result < 2) }
+    ensures { result ≡ line_of samples (units distance) }
 {
-    if distance.0 <= 746 * samples { 0 } else { 1 }
+    if distance.0 <= 746 * samples {
+        Line::Slow
+    } else {
+        Line::Fast
+    }
 }
 
 // The right side of rules 18 to 20 of a class with N samples and distance S, and beside it the left side's factor × N. No other function reckons
@@ -131,9 +159,9 @@ pub fn limit_of(c: SpeedClass, t: ClassTally) -> PowerLimit
 {
     let n = t.samples;
     let s = t.distance;
-    let line = line_of(n, s);
+    let line = coefficients_of(c, line_of(n, s));
     PowerLimit {
-        side: 2592 * (slope(c, line) * s.0 + intercept(c, line) * n),
-        factor: factor(c, line) * n,
+        side: 2592 * (line.slope * s.0 + line.intercept * n),
+        factor: line.factor * n,
     }
 }

@@ -5,13 +5,13 @@
 --     became-..                  the list's number; what the window reads is as before
 --     fit_after                  a list that is fit after a write
 -- Assumes nothing.
-use Rattle.std.specs.Prelude.{◌≡◌, refl, Bool, false, cond, ℕ, suc, ◌+◌, ◌-◌, ◌*◌, ◌^◌, ◌≤◌, ◌<◌, ℤ, length, get_or}
+use Rattle.std.specs.Prelude.{◌≡◌, refl, Bool, Option, Some, None, is_some, unwrap_or, false, ℕ, suc, ◌+◌, ◌-◌, ◌*◌, ◌^◌, ◌≤◌, ◌<◌, ℤ, pos, length, get_or}
 use Rattle.std.proofs.Common.{sym, ap, ◌∙◌, zero-add, arith, length-append}
 use Rattle.std.proofs.Math.Path.{ap₂}
 use mathlib.Core.List.{List, [], ◌∷◌, ◌++◌}
 use Rattle.std.proofs.Math.Bool.{true}
 use Rattle.model.specs.declared.Function.{Function}
-use Rattle.model.specs.declared.Function.TheVariants.{Smallest, Largest}
+use Rattle.model.specs.declared.Function.TheVariants as function
 use Rattle.model.specs.Numbers.{bit, le_at}
 use Rattle.model.specs.Records.{record_length, sample_of, channel}
 use Rattle.model.specs.Windows.{displaces}
@@ -20,15 +20,24 @@ use Rattle.slide.specs.Undisplaced.{pops, pops_none, pops_turn, pops_end, aged, 
 use Rattle.slide.specs.Held.{stepped}
 use Rattle.slots.specs.Layout.{slot_of, first_place, list_len, list_capacity, first_of, number_of, moves_of, record_of, record_in, value_in}
 use Rattle.slots.specs.Effects.{Around, record_around, record_same, Beside, beside_same, beside_then}
+use Rattle.lists.specs.declared.End.{End}
+use Rattle.lists.specs.declared.End.TheVariants.{Front, Back}
+use Rattle.list_steps.specs.declared.Extreme.{Extreme}
+use Rattle.list_steps.specs.declared.Extreme.TheVariants.{Smallest, Largest}
 use Rattle.lists.specs.Lists.{Ready, Moved, Fit, list_of, number_length, shorter, shorter_length}
 
--- the function of a window of largest or smallest
-abbrev pub extreme : Bool → Function
-extreme largest = cond largest Largest Smallest
+-- the function of a window of smallest or largest, and its code
+abbrev pub extreme_function : Extreme → Function
+extreme_function Smallest = function.Smallest
+extreme_function Largest = function.Largest
+
+abbrev pub extreme_code : Extreme → ℕ
+extreme_code Smallest = 2
+extreme_code Largest = 3
 
 -- whether a new value displaces what slot k's window reads of a second; an equal one does
-unfoldable pub displaces_in : Bool → ℤ → List ℕ → ℕ → ℕ → Bool
-displaces_in largest new p k s = displaces (extreme largest) new (value_in p k s)
+unfoldable pub displaces_in : Extreme → ℤ → List ℕ → ℕ → ℕ → Bool
+displaces_in extreme new p k s = displaces (extreme_function extreme) new (value_in p k s)
 
 -- slot k's list is now l; e entries came, the moves are as many as that takes, and nothing else is written
 pub record Became (k : ℕ) (p q l : List ℕ) (e : ℕ) : Type 0 where
@@ -81,15 +90,15 @@ module _ (k : ℕ) (p q l : List ℕ) (e : ℕ) (b : Became k p q l e) where
   became_value s =
       value_same p q k s (record_around first_place list_len (slot_of p k) (slot_of q k) b.around (omega arith)) (record_same p q s b.beside.front)
 
-  became_displaces : (largest : Bool) (new : ℤ) → displaces_in largest new q k ≡ displaces_in largest new p k
+  became_displaces : (extreme : Extreme) (new : ℤ) → displaces_in extreme new q k ≡ displaces_in extreme new p k
   unfolding displaces_in
-  became_displaces largest new = λ i s. displaces (extreme largest) new (became_value s i)
+  became_displaces extreme new = λ i s. displaces (extreme_function extreme) new (became_value s i)
 
 pub list_some : (p : List ℕ) (k : ℕ) → 0 < number_of p k → 0 < length (list_of p k)
 list_some p k h = omega (arith, number_length (slot_of p k))
 
 -- one removal, and one append
-pub shrunk : (k : ℕ) (p q l : List ℕ) (b : Bool) → 0 < number_of p k → l ≡ shorter b (list_of p k) → Moved k p q (shorter b (list_of p k)) → Became k p q l 0
+pub shrunk : (k : ℕ) (p q l : List ℕ) (b : End) → 0 < number_of p k → l ≡ shorter b (list_of p k) → Moved k p q (shorter b (list_of p k)) → Became k p q l 0
 shrunk k p q l b z e m = record {
   list = m.list ∙ sym e;
   moves = let n = number_length (slot_of p k) in omega (arith, m.moves, ap length e, shorter_length b (list_of p k) (omega arith));
@@ -111,10 +120,10 @@ grown k p q v m = record {
 pub not_left_behind : (w s k : ℕ) (p : List ℕ) → (0 < number_of p k → get_or (list_of p k) 0 0 + w ≡ s → ⊥) → Became k p p (aged w s (list_of p k)) 0
 not_left_behind w s k p h = unmoved k p _ (aged_stays w s (list_of p k) (λ z. h (omega (arith, number_length (slot_of p k)))))
 
-pub left_behind : (w s k : ℕ) (p q : List ℕ) → 0 < number_of p k → get_or (list_of p k) 0 0 + w ≡ s → Moved k p q (shorter false (list_of p k))
+pub left_behind : (w s k : ℕ) (p q : List ℕ) → 0 < number_of p k → get_or (list_of p k) 0 0 + w ≡ s → Moved k p q (shorter Front (list_of p k))
     → Became k p q (aged w s (list_of p k)) 0
 unfolding shorter
-left_behind w s k p q z e m = shrunk k p q _ false z (aged_goes w s (list_of p k) (list_some p k z) e) m
+left_behind w s k p q z e m = shrunk k p q _ Front z (aged_goes w s (list_of p k) (list_some p k z) e) m
 
 pub fit_after : (k : ℕ) (p q l : List ℕ) → Fit p k → Became k p q l 0 → length l ≤ list_capacity → Fit q k
 fit_after k p q l f b h =
@@ -136,20 +145,20 @@ pops_length d (x ∷ l) = go (pops d l) (d x) refl refl (pops_length d l)
     go (z ∷ m) b e f h = rw e (omega (arith, ap length e))
 
 -- the loop that pops, after some turns: n entries are left
-pub record Popping (largest : Bool) (new : ℤ) (k : ℕ) (p₀ p : List ℕ) (n : ℕ) : Type 0 where
+pub record Popping (extreme : Extreme) (new : ℤ) (k : ℕ) (p₀ p : List ℕ) (n : ℕ) : Type 0 where
   pub fit : Fit p k
   pub done : Became k p₀ p (list_of p k) 0
-  pub same : pops (displaces_in largest new p₀ k) (list_of p k) ≡ pops (displaces_in largest new p₀ k) (list_of p₀ k)
+  pub same : pops (displaces_in extreme new p₀ k) (list_of p k) ≡ pops (displaces_in extreme new p₀ k) (list_of p₀ k)
   pub number : n ≡ number_of p k
 
-pub pop_start : (largest : Bool) (new : ℤ) (k : ℕ) (p : List ℕ) (n : ℕ) → Fit p k → n ≡ number_of p k → Popping largest new k p p n
-pop_start largest new k p n f e = record { fit = f; done = unmoved k p (list_of p k) refl; same = refl; number = e }
+pub pop_start : (extreme : Extreme) (new : ℤ) (k : ℕ) (p : List ℕ) (n : ℕ) → Fit p k → n ≡ number_of p k → Popping extreme new k p p n
+pop_start extreme new k p n f e = record { fit = f; done = unmoved k p (list_of p k) refl; same = refl; number = e }
 
-module _ (largest : Bool) (new : ℤ) (k : ℕ) (p₀ p : List ℕ) (n : ℕ) (l : Popping largest new k p₀ p n) where
+module _ (extreme : Extreme) (new : ℤ) (k : ℕ) (p₀ p : List ℕ) (n : ℕ) (l : Popping extreme new k p₀ p n) where
   abbrev d : ℕ → Bool
-  d = displaces_in largest new p₀ k
+  d = displaces_in extreme new p₀ k
 
-  pub pop_empty : n ≡ 0 → Became k p₀ p (pops (displaces_in largest new p₀ k) (list_of p₀ k)) 0
+  pub pop_empty : n ≡ 0 → Became k p₀ p (pops (displaces_in extreme new p₀ k) (list_of p₀ k)) 0
   pop_empty z = as_list k p₀ p _ _ 0 (sym (pops_none d (list_of p k) (number_length (slot_of p k) ∙ sym l.number ∙ z)) ∙ l.same) l.done
 
   module _ (x : ℕ) (z : 0 < n) (e : x ≡ get_or (list_of p k) (n - 1) 0) where
@@ -157,19 +166,19 @@ module _ (largest : Bool) (new : ℤ) (k : ℕ) (p₀ p : List ℕ) (n : ℕ) (l
     some = omega (arith, number_length (slot_of p k), l.number)
 
     -- the test of the last entry, as the loop makes it
-    last : (b : Bool) → displaces_in largest new p k x ≡ b → d (get_or (list_of p k) (length (list_of p k) - 1) 0) ≡ b
+    last : (b : Bool) → displaces_in extreme new p k x ≡ b → d (get_or (list_of p k) (length (list_of p k) - 1) 0) ≡ b
     last b t =
         sym (ap d (e ∙ ap (λ (m : ℕ). get_or (list_of p k) (m - 1) 0) (l.number ∙ sym (number_length (slot_of p k)))))
-        ∙ sym (ap (λ (f : ℕ → Bool). f x) (became_displaces k p₀ p _ 0 l.done largest new)) ∙ t
+        ∙ sym (ap (λ (f : ℕ → Bool). f x) (became_displaces k p₀ p _ 0 l.done extreme new)) ∙ t
 
-    pub pop_stops : displaces_in largest new p k x ≡ false → Became k p₀ p (pops (displaces_in largest new p₀ k) (list_of p₀ k)) 0
+    pub pop_stops : displaces_in extreme new p k x ≡ false → Became k p₀ p (pops (displaces_in extreme new p₀ k) (list_of p₀ k)) 0
     pop_stops f = as_list k p₀ p _ _ 0 (sym (pops_end d (list_of p k) some (last false f)) ∙ l.same) l.done
 
-    pub pop_more : (q : List ℕ) → displaces_in largest new p k x ≡ true → Moved k p q (shorter true (list_of p k)) → Popping largest new k p₀ q (n - 1)
+    pub pop_more : (q : List ℕ) → displaces_in extreme new p k x ≡ true → Moved k p q (shorter Back (list_of p k)) → Popping extreme new k p₀ q (n - 1)
     pop_more q f m =
-        let s : Became k p q (shorter true (list_of p k)) 0 = shrunk k p q _ true (omega (arith, l.number)) refl m in
+        let s : Became k p q (shorter Back (list_of p k)) 0 = shrunk k p q _ Back (omega (arith, l.number)) refl m in
         let b : Became k p q (list_of q k) 0 = as_list k p q _ _ 0 (sym m.list) s in
-        let w = shorter_length true (list_of p k) some in
+        let w = shorter_length Back (list_of p k) some in
         let v = number_length (slot_of p k) in
         record {
           fit = fit_after k p q _ l.fit s (omega (arith, l.fit.number));
@@ -178,28 +187,29 @@ module _ (largest : Bool) (new : ℤ) (k : ℕ) (p₀ p : List ℕ) (n : ℕ) (l
           number = omega (arith, l.number, became_number k p q _ 0 s);
         }
 
--- slot k's list after one sample more, of second s and value new, of which t tells whether it qualifies
-abbrev pub ListStepped : (k w s : ℕ) (largest : Bool) (new : ℤ) (t : Bool) → List ℕ → List ℕ → Type 0
-ListStepped k w s largest new t p q = Became k p q (stepped w s t (displaces_in largest new p k) (list_of p k)) (bit t)
+-- slot k's list after one sample more, of second s, with its value where it qualifies
+abbrev pub ListStepped : (k w s : ℕ) (extreme : Extreme) (new : Option ℤ) → List ℕ → List ℕ → Type 0
+ListStepped k w s extreme new p q =
+    Became k p q (stepped w s (is_some new) (displaces_in extreme (unwrap_or new (pos 0)) p k) (list_of p k)) (bit (is_some new))
 
 -- one sample more: the list is aged, and where the sample qualifies, popped and appended to
-module _ (w s : ℕ) (largest : Bool) (new : ℤ) (k : ℕ) (p p₁ : List ℕ) (b : Became k p p₁ (aged w s (list_of p k)) 0) where
-  pub step_skip : (t : Bool) → t ≡ false → ListStepped k w s largest new t p p₁
+module _ (w s : ℕ) (extreme : Extreme) (k : ℕ) (p p₁ : List ℕ) (b : Became k p p₁ (aged w s (list_of p k)) 0) where
+  pub step_skip : ListStepped k w s extreme None p p₁
   unfolding stepped
-  step_skip t e = rw e b
+  step_skip = b
 
-  module _ (p₂ : List ℕ) (c : Became k p₁ p₂ (pops (displaces_in largest new p₁ k) (list_of p₁ k)) 0) where
+  module _ (new : ℤ) (p₂ : List ℕ) (c : Became k p₁ p₂ (pops (displaces_in extreme new p₁ k) (list_of p₁ k)) 0) where
     pub append_ready : Fit p k → length (aged w s (list_of p k)) < list_capacity → (Ready p₂ k) × (number_of p₂ k < list_capacity) × (moves_of p₂ + 1 < 2 ^ 64)
     append_ready f h =
         let f₁ : Fit p₁ k = fit_after k p p₁ _ f b (omega arith) in
         let n = number_length (slot_of p₁ k) in
         let m = became_number k p p₁ _ 0 b in
-        let o = pops_length (displaces_in largest new p₁ k) (list_of p₁ k) in
+        let o = pops_length (displaces_in extreme new p₁ k) (list_of p₁ k) in
         let f₂ : Fit p₂ k = fit_after k p₁ p₂ _ f₁ c (omega arith) in
         (f₂.ready, omega (arith, became_number k p₁ p₂ _ 0 c), omega (arith, f₂.room))
 
-    pub step_on : (t : Bool) (q : List ℕ) → t ≡ true → Moved k p₂ q (list_of p₂ k ++ (s ∷ [])) → ListStepped k w s largest new t p q
+    pub step_on : (q : List ℕ) → Moved k p₂ q (list_of p₂ k ++ (s ∷ [])) → ListStepped k w s extreme (Some new) p q
     unfolding stepped
-    step_on t q e m =
-        rw e (as_list k p q _ _ 1 (ap (λ (l : List ℕ). l ++ (s ∷ [])) (c.list ∙ ap₂ pops (became_displaces k p p₁ _ 0 b largest new) b.list))
-        (then k p p₂ q _ _ 0 1 (then k p p₁ p₂ _ _ 0 0 b c) (grown k p₂ q s m)))
+    step_on q m =
+        as_list k p q _ _ 1 (ap (λ (l : List ℕ). l ++ (s ∷ [])) (c.list ∙ ap₂ pops (became_displaces k p p₁ _ 0 b extreme new) b.list))
+        (then k p p₂ q _ _ 0 1 (then k p p₁ p₂ _ _ 0 0 b c) (grown k p₂ q s m))

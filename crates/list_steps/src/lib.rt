@@ -8,13 +8,25 @@ ghost use Rattle.slots.specs.Layout.{part_len, list_capacity};
 ghost use Rattle.lists.specs.Lists.{list_of, Fit};
 ghost use Rattle.list_steps.specs.Steps.{displaces_in, Became, ListStepped};
 
+use lists::End;
+
+// The value of its list's entries that a window reads: two of the six functions keep a list.
+#[derive(Clone, Copy)]
+pub enum Extreme {
+    Smallest,
+    Largest,
+}
+
 // Whether a new value displaces the entry of a second; an equal one does.
-fn displaced(part: &[u8], k: usize, largest: bool, new: i64, second: u16) -> bool
+fn displaced(part: &[u8], k: usize, extreme: Extreme, new: i64, second: u16) -> bool
     requires { (length part.now ≡ part_len) × (k < max_windows) }
-    ensures { result ≡ displaces_in largest new part.now k second }
+    ensures { result ≡ displaces_in extreme new part.now k second }
 {
     let old = slots::value(part, k, second);
-    if largest { old <= new } else { new <= old }
+    match extreme {
+        Extreme::Smallest => new <= old,
+        Extreme::Largest => old <= new,
+    }
 }
 
 // The first entry goes where a window of width w leaves it behind as this second comes.
@@ -31,42 +43,31 @@ fn age(part: &mut [u8], k: usize, w: u16, second: u16)
     if lists::entry(part, k, 0) != second - w {
         return;
     }
-    lists::remove(part, k, false);
+    lists::remove(part, k, End::Front);
 }
 
 // Those at the back that the new value displaces go.
-fn pop(part: &mut [u8], k: usize, largest: bool, new: i64)
+fn pop(part: &mut [u8], k: usize, extreme: Extreme, new: i64)
     requires { Fit part.old k }
-    ensures { Became k part.old part.new (pops (displaces_in largest new part.old k) (list_of part.old k)) 0 }
+    ensures { Became k part.old part.new (pops (displaces_in extreme new part.old k) (list_of part.old k)) 0 }
 {
-    let mut n = slots::number(part, k);
-    while 0 < n {
-        let x = lists::entry(part, k, n - 1);
-        if !displaced(part, k, largest, new, x) {
+    for last in (0..slots::number(part, k)).rev() {
+        let second = lists::entry(part, k, last);
+        if !displaced(part, k, extreme, new, second) {
             return;
         }
-        lists::remove(part, k, true);
-        n -= 1;
+        lists::remove(part, k, End::Back);
     }
 }
 
-// One sample more for a list: its second, its value, and whether it qualifies.
-pub fn step_list(
-    part: &mut [u8],
-    k: usize,
-    largest: bool,
-    w: u16,
-    second: u16,
-    new: i64,
-    qualifies: bool,
-)
+// One sample more for a list: its second, and its value where it qualifies.
+pub fn step_list(part: &mut [u8], k: usize, extreme: Extreme, w: u16, second: u16, new: Option<i64>)
     requires { (Fit part.old k) × (length (aged w second (list_of part.old k)) < list_capacity) }
-    ensures { ListStepped k w second largest new qualifies part.old part.new }
+    ensures { ListStepped k w second extreme new part.old part.new }
 {
     age(part, k, w, second);
-    if !qualifies {
-        return;
+    if let Some(z) = new {
+        pop(part, k, extreme, z);
+        lists::append(part, k, second);
     }
-    pop(part, k, largest, new);
-    lists::append(part, k, second);
 }

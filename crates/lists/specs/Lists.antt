@@ -5,7 +5,7 @@
 --     list_around           a write elsewhere in the slot leaves the list
 --     list_none             a number of 0 is the empty list
 -- Assumes nothing.
-use Rattle.std.specs.Prelude.{◌≡◌, refl, List, [], ◌∷◌, ◌++◌, Bool, true, false, cond, ℕ, ◌+◌, ◌-◌, ◌*◌, ◌%◌, ◌^◌, ◌≤◌, ◌<◌, length, get_or, take, drop}
+use Rattle.std.specs.Prelude.{◌≡◌, refl, List, [], ◌∷◌, ◌++◌, Bool, true, ℕ, ◌+◌, ◌-◌, ◌*◌, ◌%◌, ◌^◌, ◌≤◌, ◌<◌, length, get_or, take, drop}
 use Rattle.std.proofs.Common.{sym, ap, ◌∙◌, arith, length-append, length-take, length-drop, take_at}
 use Rattle.model.specs.Numbers.{le_at, le_bytes}
 use Rattle.model.specs.Records.{max_windows}
@@ -14,6 +14,8 @@ use Rattle.field.specs.Le.{put_le, le_same, le_under, le_other, put_le_length}
 use Rattle.slots.specs.Layout.{part_len, slot_len, slot_of, slot_length, first_place, number_place, store_place, list_len, list_capacity}
 use Rattle.slots.specs.Layout.{first_in, number_in, first_of, number_of, moves_of}
 use Rattle.slots.specs.Effects.{Around, around_two, Beside, beside_then, Written, le_around}
+use Rattle.lists.specs.declared.End.{End}
+use Rattle.lists.specs.declared.End.TheVariants.{Front, Back}
 use Rattle.lists.specs.Effects.{Recounted, recounted_beside}
 use Rattle.lists.specs.Circular.{circ, circ_length, circ_same, circ_push, circ_back, circ_front, circ_at}
 
@@ -74,26 +76,27 @@ pub record Moved (k : ℕ) (p q l : List ℕ) : Type 0 where
   pub first : first_of q k < list_capacity
 
 -- without the last, and without the first
-unfoldable pub shorter : (back : Bool) → List ℕ → List ℕ
-shorter true l = take (length l - 1) l
-shorter false l = drop 1 l
+unfoldable pub shorter : End → List ℕ → List ℕ
+shorter Back l = take (length l - 1) l
+shorter Front l = drop 1 l
 
-shorter_back : (l t : List ℕ) (x : ℕ) → l ≡ t ++ (x ∷ []) → shorter true l ≡ t
+shorter_back : (l t : List ℕ) (x : ℕ) → l ≡ t ++ (x ∷ []) → shorter Back l ≡ t
 unfolding shorter
 shorter_back l t x e = rw (e, length-append) (take_at t (x ∷ []) (length t + 1 - 1) (omega arith))
 
-shorter_front : (l t : List ℕ) (x : ℕ) → l ≡ x ∷ t → shorter false l ≡ t
+shorter_front : (l t : List ℕ) (x : ℕ) → l ≡ x ∷ t → shorter Front l ≡ t
 unfolding shorter
 shorter_front l t x e = rw e
 
-pub shorter_length : (b : Bool) (l : List ℕ) → 0 < length l → length (shorter b l) + 1 ≡ length l
+pub shorter_length : (b : End) (l : List ℕ) → 0 < length l → length (shorter b l) + 1 ≡ length l
 unfolding shorter
-shorter_length true l h = omega (arith, length-take (length l - 1) l)
-shorter_length false l h = omega (arith, length-drop 1 l)
+shorter_length Back l h = omega (arith, length-take (length l - 1) l)
+shorter_length Front l h = omega (arith, length-drop 1 l)
 
 -- the first place after one was removed
-abbrev pub next_first : (back : Bool) → ℕ → ℕ
-next_first back f = cond back f ((f + 1) % list_capacity)
+abbrev pub next_first : End → ℕ → ℕ
+next_first Back f = f
+next_first Front f = (f + 1) % list_capacity
 
 -- one slot's bytes: an entry v behind the last, then the number
 push_slot : (s r q : List ℕ) (v : ℕ) → length s ≡ slot_len → first_in s < list_capacity → number_in s < list_capacity → v < 65536
@@ -124,15 +127,15 @@ push_slot s r q v h a b d er eq =
     around = rw (eq, er) (around_two first_place list_len 2 c v 2 number_place _ s (omega arith) (omega arith) (omega arith) (omega arith))
 
 -- one slot's bytes: the first place, then the number
-pop_slot : (s r q : List ℕ) (b : Bool) → length s ≡ slot_len → first_in s < list_capacity → number_in s ≤ list_capacity → 0 < number_in s
+pop_slot : (s r q : List ℕ) (b : End) → length s ≡ slot_len → first_in s < list_capacity → number_in s ≤ list_capacity → 0 < number_in s
     → r ≡ put_le 2 s first_place (next_first b (first_in s)) → q ≡ put_le 2 r number_place (number_in s - 1)
     → (list_in q ≡ shorter b (list_in s)) × (first_in q < list_capacity) × (Around first_place list_len s q)
 unfolding list_in
 pop_slot s r q b h a d z er eq = (rw (first, number, cells) (by b), rw first (below b), around)
   where
-    below : (b : Bool) → next_first b (first_in s) < list_capacity
-    below true = a
-    below false = omega arith
+    below : (b : End) → next_first b (first_in s) < list_capacity
+    below Back = a
+    below Front = omega arith
 
     first : first_in q ≡ next_first b (first_in s)
     first = rw (eq, er) (le_under 2 s first_place _ 2 number_place _ (omega arith) (omega (arith, below b)) (λ x y. omega arith))
@@ -146,9 +149,9 @@ pop_slot s r q b h a d z er eq = (rw (first, number, cells) (by b), rw first (be
         cell : (b : ℕ) → store_place ≤ b → le_at 2 q b ≡ le_at 2 s b
         cell b l = rw (eq, er) (le_other 2 _ number_place _ 2 b (λ x y. omega arith) ∙ le_other 2 s first_place _ 2 b (λ x y. omega arith))
 
-    by : (b : Bool) → circ (cell_in s) (next_first b (first_in s)) (number_in s - 1) ≡ shorter b (circ (cell_in s) (first_in s) (number_in s))
-    by true = sym (shorter_back _ _ _ (circ_back (cell_in s) (first_in s) (number_in s) z))
-    by false = sym (shorter_front _ _ _ (circ_front (cell_in s) (first_in s) (number_in s) z))
+    by : (b : End) → circ (cell_in s) (next_first b (first_in s)) (number_in s - 1) ≡ shorter b (circ (cell_in s) (first_in s) (number_in s))
+    by Back = sym (shorter_back _ _ _ (circ_back (cell_in s) (first_in s) (number_in s) z))
+    by Front = sym (shorter_front _ _ _ (circ_front (cell_in s) (first_in s) (number_in s) z))
 
     around : Around first_place list_len s q
     around = rw (eq, er) (around_two first_place list_len 2 first_place _ 2 number_place _ s (omega arith) (omega arith) (omega arith) (omega arith))
@@ -173,7 +176,7 @@ module _ (p p₁ p₂ q : List ℕ) (k o n : ℕ) (r : Ready p k) where
       let s = push_slot (slot_of p k) (slot_of p₁ k) (slot_of p₂ k) v l r.first b d (rw eo at w₁.here) (rw en at w₂.here) in
       moved _ _ _ _ _ w₁ w₂ t s.0 (rw s.1 r.first) s.2
 
-  pub removed : (b : Bool) → number_of p k ≤ list_capacity → 0 < number_of p k → o ≡ next_first b (first_of p k) → n ≡ number_of p k - 1
+  pub removed : (b : End) → number_of p k ≤ list_capacity → 0 < number_of p k → o ≡ next_first b (first_of p k) → n ≡ number_of p k - 1
       → Written k first_place (le_bytes 2 o) p p₁ → Written k number_place (le_bytes 2 n) p₁ p₂ → Recounted (moves_of p₂ + 1) p₂ q
       → Moved k p q (shorter b (list_of p k))
   unfolding put_le

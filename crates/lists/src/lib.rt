@@ -15,8 +15,8 @@ fn clear_list(part: &mut [u8], k: usize)
     requires { (length part.old ≡ part_len) × (k < max_windows) }
     ensures { Emptied k part.old part.new }
 {
-    slots::slot_put(part, k, FIRST, 2, 0);
-    slots::slot_put(part, k, NUMBER, 2, 0);
+    slots::put::<u16>(part, k, FIRST, 0);
+    slots::put::<u16>(part, k, NUMBER, 0);
 }
 
 // Every list becomes empty: only clear does this.
@@ -24,10 +24,8 @@ pub fn clear_lists(part: &mut [u8])
     requires { length part.old ≡ part_len }
     ensures { Cleared max_windows part.old part.new }
 {
-    let mut k: usize = 0;
-    while k < MAX_WINDOWS as usize {
+    for k in 0..MAX_WINDOWS as usize {
         clear_list(part, k);
-        k += 1;
     }
 }
 
@@ -36,7 +34,7 @@ pub fn clear_moves(part: &mut [u8])
     requires { length part.old ≡ part_len }
     ensures { Recounted 0 part.old part.new }
 {
-    field::put_u64(part, MOVES, 0);
+    field::put::<u64>(part, MOVES, 0);
 }
 
 // One move more.
@@ -45,7 +43,7 @@ fn count_move(part: &mut [u8])
     ensures { Recounted (moves_of part.old + 1) part.old part.new }
 {
     let n = slots::moves(part);
-    field::put_u64(part, MOVES, n + 1);
+    field::put(part, MOVES, n + 1);
 }
 
 // A place of the store past its end is one at its start.
@@ -66,42 +64,54 @@ pub fn append(part: &mut [u8], k: usize, second: u16)
     ensures { Moved k part.old part.new (list_of part.old k ++ (second ∷ [])) }
 {
     let n = slots::number(part, k);
-    let place = wrap(slots::first(part, k) + n) as usize;
-    slots::slot_put(part, k, STORE + 2 * place, 2, second as u64);
-    slots::slot_put(part, k, NUMBER, 2, (n + 1) as u64);
+    let place = usize::from(wrap(slots::first(part, k) + n));
+    slots::put(part, k, STORE + 2 * place, second);
+    slots::put(part, k, NUMBER, n + 1);
     count_move(part);
 }
 
+// An end of a list.
+#[derive(Clone, Copy)]
+pub enum End {
+    Front,
+    Back,
+}
+
 // The place of the first entry after a removal.
-fn next_first(back: bool, first: u16) -> u16
+fn next_first(end: End, first: u16) -> u16
     requires { first < list_capacity }
-    ensures { result ≡ next_first back first }
+    ensures { result ≡ next_first end first }
 {
-    if back { first } else { wrap(first + 1) }
+    match end {
+        End::Front => wrap(first + 1),
+        End::Back => first,
+    }
 }
 
 // Removes one entry at an end of slot k's list: the other of the two.
-pub fn remove(part: &mut [u8], k: usize, back: bool)
+pub fn remove(part: &mut [u8], k: usize, end: End)
     requires { Removable part.old k }
-    ensures { Moved k part.old part.new (shorter back (list_of part.old k)) }
+    ensures { Moved k part.old part.new (shorter end (list_of part.old k)) }
 {
     let n = slots::number(part, k);
-    let f = next_first(back, slots::first(part, k));
-    slots::slot_put(part, k, FIRST, 2, f as u64);
-    slots::slot_put(part, k, NUMBER, 2, (n - 1) as u64);
+    let f = next_first(end, slots::first(part, k));
+    slots::put(part, k, FIRST, f);
+    slots::put(part, k, NUMBER, n - 1);
     count_move(part);
 }
 
 // Entry j of slot k's list.
+#[tactic(auto, using(crate::specs::Lists::entry_get))]
 pub fn entry(part: &[u8], k: usize, j: u16) -> u16
     requires { (Ready part.now k) × (number_of part.now k ≤ list_capacity) × (j < number_of part.now k) }
     ensures { result ≡ get_or (list_of part.now k) j 0 }
 {
-    let place = wrap(slots::first(part, k) + j) as usize;
-    slots::slot_get(part, k, STORE + 2 * place, 2) as u16
+    let place = usize::from(wrap(slots::first(part, k) + j));
+    slots::get(part, k, STORE + 2 * place)
 }
 
 // Whether slot k's list may be used: any bytes are tested first.
+#[tactic(auto, using(crate::proofs::Answers::fitness))]
 pub fn fit(part: &[u8], k: usize) -> bool
     requires { (length part.now ≡ part_len) × (k < max_windows) }
     ensures { Fitness part.now k result }

@@ -1,9 +1,9 @@
 -- The marked cases of document 01 ("Contracts and proved cases", (a) to (i)): what the definitions give, what document 01 states, and one theorem.
 use Rattle.std.specs.Prelude.{Bool, true, false, List, [], ◌∷◌, ◌++◌, map, ◌≡◌, refl, ℕ, ◌-◌, ℤ, pos, replicate}
-use Rattle.std.proofs.Math.Option.{Option, some}
+use Rattle.std.specs.Prelude.{Option, Some}
 use Rattle.model.specs.declared.Sample.{Sample}
 use Rattle.model.specs.Numbers.{le_val, le_at, le_bytes, signed, within, withinℤ, outside, floor_div, floor_mod, even, round_half_even, all, range, sumℤ, filter, count, any, total, minus}
-use Rattle.model.specs.Records.{sample_of, in_range, channels, channel, functions, window_of, fields_kept, layout_kept, record_at}
+use Rattle.model.specs.Records.{sample_of, in_range, channels, channel, window_of, fields_kept, layout_kept, record_at}
 use Rattle.model.specs.Windows.{sample_at, looked_at, qualifies, qualifying, value_at, values, fold, smallest, largest, average, enough, percentile, figure, reading, keeps_entries, entries, displaces, undisplaced, held, moves}
 use Rattle.model.specs.Rules.{in_class, samples_in, distance_in, distance, stopped, above100, above145, above160, temperature_fault, altitude_fault, speed_at, speed_before, acceleration, accelerating, power, accelerating_in, p95, too_short, too_long, share_outside, too_near, stops_outside, urban_mean_outside, too_few_above100, some_above160, too_many_above145, some_temperature_fault, some_altitude_fault, too_few_accelerating, slow, power_factor, limit_side, beyond_limit, some_beyond, power_beyond, apart, last_of, ends_apart, rules}
 use Rattle.model.specs.Verdicts.{broken, mask, nox_sum, extended_temperature, extended_altitude, is_extended, extended_sum, weighted, exceeds_limit, exceeded, finding, verdict_of}
@@ -82,7 +82,7 @@ unfoldable pub stated : Table
 stated = record {
   a = numbers (0 ∷ 0 ∷ 4 ∷ 0 ∷ 4 ∷ 0 ∷ 7 ∷ 0 ∷ 3 ∷ []);
   b = numbers (0 ∷ 1 ∷ 2 ∷ 4 ∷ 7 ∷ []);
-  c = some (pos 19) ∷ some (pos 20) ∷ [];
+  c = Some (pos 19) ∷ Some (pos 20) ∷ [];
   d = ascii "samples 0\nbroken 000384e1\nverdict rule 0\n" ∷ ascii "samples 1\nbroken 00038cfd\nverdict rule 0\n" ∷ [];
   e = false ∷ true ∷ [];
   f = true ∷ false ∷ false ∷ true ∷ [];
@@ -94,7 +94,7 @@ stated = record {
 pub marked_cases : computed ≡ stated
 unfolding
     le_val le_at le_bytes signed within withinℤ outside floor_div all range sumℤ filter count any total
-    sample_of in_range channels channel functions window_of fields_kept layout_kept
+    sample_of in_range channels channel window_of fields_kept layout_kept
     sample_at looked_at qualifies qualifying value_at values fold smallest largest average enough percentile figure reading
     keeps_entries entries displaces undisplaced held moves
     in_class samples_in distance_in distance stopped above100 above145 above160 temperature_fault altitude_fault

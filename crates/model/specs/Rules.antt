@@ -1,6 +1,6 @@
 -- The rules of a trip (document 01, "The rules"; document 02, R-1, and R-2 for the bounds that it shares; Regulation (EU) 2017/1151, Annex IIIA). A rule is a test of the samples: true where it is broken.
 use Rattle.std.specs.Prelude.{Bool, false, cond, ◌&&◌, List, [], ◌∷◌, map, ℕ, zero, suc, ◌+◌, ◌*◌, leb, ltb, ℤ, pos, nat_abs, ◌-ℤ◌, ◌*ℤ◌, length}
-use Rattle.std.proofs.Math.Option.{Option, none, some}
+use Rattle.std.specs.Prelude.{Option, None, Some}
 use Rattle.std.specs.Int.Signed.{le_z, lt_z}
 use Rattle.model.specs.declared.Distance.{Distance}
 use Rattle.model.specs.declared.Sample.{Sample}
@@ -154,8 +154,8 @@ beyond_limit n s p = lt_z (pos (limit_side n s)) (pos (power_factor n s * n) *�
 
 -- "kept if no sample is lively"
 unfoldable pub some_beyond : ℕ → ℕ → Option ℤ → Bool
-some_beyond n s none = false
-some_beyond n s (some p) = beyond_limit n s p
+some_beyond n s None = false
+some_beyond n s (Some p) = beyond_limit n s p
 
 unfoldable pub power_beyond : SpeedClass → List Sample → Bool
 power_beyond c ss = some_beyond (samples_in c ss) (units (distance_in c ss)) (p95 c ss)

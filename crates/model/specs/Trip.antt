@@ -1,6 +1,6 @@
 -- The reference model, document 01's "trip book": what each call answers, and the trip that the next call meets.
 use Rattle.std.specs.Prelude.{Bool, true, false, List, [], ◌∷◌, ◌++◌, ℕ, ℤ, pos, length, get_or}
-use Rattle.std.proofs.Math.Option.{Option, none, some}
+use Rattle.std.specs.Prelude.{Option, None, Some}
 use Rattle.model.specs.declared.Sample.{Sample}
 use Rattle.model.specs.declared.Verdict.{Verdict}
 use Rattle.model.specs.Records.{sample_of, window_of, Window}
@@ -29,12 +29,12 @@ pub data Call : Type 0 where
 
 -- the record that a call lends, if it lends one
 unfoldable pub record_of : Call → Option (List ℕ)
-record_of clear = none
-record_of (declare r) = some r
-record_of (sample r) = some r
-record_of close = none
-record_of (read k) = none
-record_of verdict = none
+record_of clear = None
+record_of (declare r) = Some r
+record_of (sample r) = Some r
+record_of close = None
+record_of (read k) = None
+record_of verdict = None
 
 -- "0, window numbers, readings, verdicts whole, refusals with their numbers, move counts"
 pub data Answer : Type 0 where
@@ -65,8 +65,8 @@ window_at t k = get_or t.windows k (window_of [])
 
 -- "With none qualifying, count and sum are 0 and the others give refusal 10."
 unfoldable pub told : Trip → Option ℤ → Outcome
-told t none = refuse 10
-told t (some z) = accept (number z) t
+told t None = refuse 10
+told t (Some z) = accept (number z) t
 
 -- what a call comes to
 unfoldable pub outcome : Trip → Call → Outcome

@@ -1,6 +1,6 @@
 -- What a window looks at, which samples qualify, the six functions, and the held entries (document 01, "One window").
 use Rattle.std.specs.Prelude.{Bool, true, false, cond, List, [], ◌∷◌, map, ℕ, ◌-◌, ◌*◌, leb, ℤ, pos, length, get_or}
-use Rattle.std.proofs.Math.Option.{Option, none, some}
+use Rattle.std.specs.Prelude.{Option, None, Some}
 use Rattle.std.specs.Int.Signed.{le_z}
 use Rattle.model.specs.declared.Sample.{Sample}
 use Rattle.model.specs.declared.Function.{Function}
@@ -44,17 +44,17 @@ fold f a [] = a
 fold f a (z ∷ zs) = fold f (f a z) zs
 
 unfoldable pub smallest : List ℤ → Option ℤ
-smallest [] = none
-smallest (z ∷ zs) = some (fold smaller z zs)
+smallest [] = None
+smallest (z ∷ zs) = Some (fold smaller z zs)
 
 unfoldable pub largest : List ℤ → Option ℤ
-largest [] = none
-largest (z ∷ zs) = some (fold larger z zs)
+largest [] = None
+largest (z ∷ zs) = Some (fold larger z zs)
 
 -- "The average is sum by count, rounded down"
 unfoldable pub average : List ℤ → Option ℤ
-average [] = none
-average (z ∷ zs) = some (floor_div (sumℤ (z ∷ zs)) (length (z ∷ zs)))
+average [] = None
+average (z ∷ zs) = Some (floor_div (sumℤ (z ∷ zs)) (length (z ∷ zs)))
 
 -- "100 × (qualifying values ≤ v) is at least 95 × (qualifying values)"
 unfoldable pub enough : List ℤ → ℤ → Bool
@@ -65,8 +65,8 @@ unfoldable pub percentile : List ℤ → Option ℤ
 percentile zs = smallest (filter (enough zs) zs)
 
 unfoldable pub figure : Function → List ℤ → Option ℤ
-figure Count zs = some (pos (length zs))
-figure Sum zs = some (sumℤ zs)
+figure Count zs = Some (pos (length zs))
+figure Sum zs = Some (sumℤ zs)
 figure Smallest zs = smallest zs
 figure Largest zs = largest zs
 figure Average zs = average zs

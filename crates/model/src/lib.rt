@@ -3,6 +3,8 @@
 
 ghost use Rattle.std.specs.Prelude.{◌≡◌, ◌≤◌};
 ghost use Rattle.model.specs.Numbers.{bit};
+ghost use Rattle.model.specs.Answers.{refusal_number, finding_code};
+ghost use Rattle.model.specs.Records.{function_read};
 
 // Bytes of a sample record and of a window record.
 pub const RECORD_LEN: usize = 16;
@@ -32,7 +34,7 @@ pub const HIGHEST_ALTITUDE: i16 = 1300;
 pub fn bit(b: bool) -> u32
     ensures { (result ≡ bit b) × (result ≤ 1) }
 {
-    if b { 1 } else { 0 }
+    u32::from(b)
 }
 
 // A speed in tenths of km/h.
@@ -62,7 +64,7 @@ pub struct Sample {
 }
 
 // What a window reads off the values of its qualifying samples.
-#[derive(Clone, Copy)]
+#[derive(Clone, Copy, Debug, PartialEq, Eq)]
 pub enum Function {
     Count,
     Sum,
@@ -73,7 +75,7 @@ pub enum Function {
 }
 
 // The classes of Annex IIIA by the sample's own speed.
-#[derive(Clone, Copy)]
+#[derive(Clone, Copy, Debug, PartialEq, Eq)]
 pub enum SpeedClass {
     Urban,
     Rural,
@@ -112,14 +114,14 @@ pub struct Tally {
 }
 
 // What a verdict says first. Document 01 calls it the word.
-#[derive(Clone, Copy)]
+#[derive(Clone, Copy, Debug, PartialEq, Eq)]
 pub enum Finding {
     Rule(u32),
     Exceeded,
     Clean,
 }
 
-#[derive(Clone, Copy)]
+#[derive(Clone, Copy, Debug, PartialEq, Eq)]
 pub struct Verdict {
     // Bit k is set where rule k is broken.
     pub broken: u32,
@@ -127,16 +129,83 @@ pub struct Verdict {
     pub finding: Finding,
 }
 
-// The answer of a call, but for the verdict.
-#[derive(Clone, Copy)]
-pub enum Answer {
-    Number(i64),
-    Refused(u32),
+// Why a call is refused. A call answers a `Result<_, Refusal>`; specs/Answers.antt has the number of each.
+#[derive(Clone, Copy, Debug, PartialEq, Eq)]
+pub enum Refusal {
+    // A record that is not 16 bytes long, or a block that is no multiple of that.
+    RecordLength,
+    // A sample, a window or another close after the trip was closed.
+    TripClosed,
+    SecondOutOfTurn,
+    ValueOutOfRange,
+    // All samples of a trip are held already, or a block has more.
+    TooManySamples,
+    WindowLayout,
+    WindowAfterSample,
+    // All windows are declared already.
+    TooManyWindows,
+    NoSuchWindow,
+    NoneQualifies,
+    // The area or the output is not as long as it must be.
+    WrongLength,
+    TallyIllFormed,
+    TooManyJoined,
+    // The area is found to stand for no trip; document 01 leaves the number free.
+    AreaDamaged,
 }
 
-// The answer of the verdict call.
-#[derive(Clone, Copy)]
-pub enum VerdictAnswer {
-    Judged(Verdict),
-    Refused(u32),
+// The number of a refusal, of document 01's table.
+impl From<Refusal> for u32 {
+    ghost from_gives = { λ refusal n. n ≡ refusal_number refusal };
+
+    fn from(refusal: Refusal) -> u32 {
+        match refusal {
+            Refusal::RecordLength => 1,
+            Refusal::TripClosed => 2,
+            Refusal::SecondOutOfTurn => 3,
+            Refusal::ValueOutOfRange => 4,
+            Refusal::TooManySamples => 5,
+            Refusal::WindowLayout => 6,
+            Refusal::WindowAfterSample => 7,
+            Refusal::TooManyWindows => 8,
+            Refusal::NoSuchWindow => 9,
+            Refusal::NoneQualifies => 10,
+            Refusal::WrongLength => 11,
+            Refusal::TallyIllFormed => 12,
+            Refusal::TooManyJoined => 13,
+            Refusal::AreaDamaged => 255,
+        }
+    }
+}
+
+// A finding as a number: 0 to 31 a rule, 32 exceeded, 33 clean.
+impl From<Finding> for u32 {
+    ghost from_gives = { λ finding n. n ≡ finding_code finding };
+
+    fn from(finding: Finding) -> u32 {
+        match finding {
+            Finding::Rule(k) => k,
+            Finding::Exceeded => 32,
+            Finding::Clean => 33,
+        }
+    }
+}
+
+// The function of a code.
+impl TryFrom<u8> for Function {
+    type Error = Refusal;
+
+    ghost try_from_gives = { λ code r. r ≡ function_read code };
+
+    fn try_from(code: u8) -> Result<Function, Refusal> {
+        match code {
+            0 => Ok(Function::Count),
+            1 => Ok(Function::Sum),
+            2 => Ok(Function::Smallest),
+            3 => Ok(Function::Largest),
+            4 => Ok(Function::Average),
+            5 => Ok(Function::Percentile),
+            6..=255 => Err(Refusal::WindowLayout),
+        }
+    }
 }

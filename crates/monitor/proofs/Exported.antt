@@ -5,10 +5,9 @@
 -- Assumes nothing.
 use Rattle.std.specs.Prelude.{false, List, [], ◌∷◌, ◌≡◌, refl, ℕ, length}
 use Rattle.std.proofs.Common.{ap, subst, ◌∙◌}
-use Rattle.model.specs.declared.Answer.{Answer as Told-answer}
-use Rattle.model.specs.declared.Answer.TheVariants as told
-use Rattle.model.specs.declared.VerdictAnswer.{VerdictAnswer}
-use Rattle.model.specs.declared.VerdictAnswer.TheVariants as verdict-told
+use Rattle.std.specs.Prelude.{ℤ, Result, Ok, Err}
+use Rattle.model.specs.declared.Refusal.{Refusal}
+use Rattle.model.specs.declared.Verdict.{Verdict}
 use Rattle.model.specs.Answers.{answer_of, verdict_answer_of}
 use Rattle.model.specs.Trip.{Call, clear, verdict, Answer, refused}
 use Rattle.area.specs.Layout.{area_len}
@@ -23,15 +22,15 @@ record Stepped (c : Call) (s : List ℕ) (g : Given) (s' : List ℕ) : Type 0 wh
   pub step : Step c s answer s'
   pub is : g ≡ struct_of c answer
 
-plain_struct : (c : Call) (a : Told-answer) → judges c ≡ false → plain (reply_of a) ≡ struct_of c (answer_of a)
+plain_struct : (c : Call) (a : Result ℤ Refusal) → judges c ≡ false → plain (reply_of a) ≡ struct_of c (answer_of a)
 unfolding struct_of
-plain_struct c (told.Number z) e = refl
-plain_struct c (told.Refused k) e = rw e
+plain_struct c (Ok z) e = refl
+plain_struct c (Err r) e = rw e
 
-verdict_struct : (a : VerdictAnswer) → judgement (verdict_reply_of a) ≡ struct_of verdict (verdict_answer_of a)
+verdict_struct : (a : Result Verdict Refusal) → judgement (verdict_reply_of a) ≡ struct_of verdict (verdict_answer_of a)
 unfolding struct_of
-verdict_struct (verdict-told.Judged v) = refl
-verdict_struct (verdict-told.Refused k) = refl
+verdict_struct (Ok v) = refl
+verdict_struct (Err r) = refl
 
 stepped : {c : Call} {s s' : List ℕ} {g : Given} → Exported c s g s' → Stepped c s g s'
 stepped (tells {c = c} e t) = record { answer = answer_of t.told; step = t.promise; is = ap plain t.is ∙ plain_struct c t.told e }

@@ -5,12 +5,12 @@ ghost use Rattle.std.specs.Prelude.{◌≡◌, length};
 ghost use Rattle.model.specs.Blocks.{tallied, joined};
 ghost use Rattle.model.specs.Trip as model;
 ghost use Rattle.area.specs.Layout.{area_len};
-ghost use Rattle.monitor.specs.Reply.{reply_of, judged_reply_of, verdict_reply_of, Told, Writes};
+ghost use Rattle.monitor.specs.Reply.{reply_of, verdict_reply_of, Told, Writes};
 ghost use Rattle.monitor.specs.Exported.{plain, judgement, Exported};
 
-use model::{Answer, Verdict, VerdictAnswer};
+use model::{Refusal, Verdict};
 
-// An answer: refusal 0 is accepted, with the value; any other refusal has value 0.
+// An answer: refusal 0 is accepted, with the value; any other refusal has value 0. C has no `Result`, so this and the next are structs of numbers.
 #[repr(C)]
 #[derive(Clone, Copy)]
 pub struct RdeAnswer {
@@ -28,44 +28,38 @@ pub struct RdeVerdictAnswer {
     pub word: u32,
 }
 
-fn reply(a: Answer) -> RdeAnswer
-    ensures { result ≡ reply_of a }
-{
-    match a {
-        Answer::Number(v) => RdeAnswer {
-            refusal: 0,
-            value: v,
-        },
-        Answer::Refused(k) => RdeAnswer {
-            refusal: k,
-            value: 0,
-        },
+impl From<Result<i64, Refusal>> for RdeAnswer {
+    ghost from_gives = { λ answer reply. reply ≡ reply_of answer };
+
+    fn from(answer: Result<i64, Refusal>) -> RdeAnswer {
+        match answer {
+            Ok(value) => RdeAnswer { refusal: 0, value },
+            Err(refusal) => RdeAnswer {
+                refusal: u32::from(refusal),
+                value: 0,
+            },
+        }
     }
 }
 
-fn judged_reply(v: Verdict) -> RdeVerdictAnswer
-    ensures { result ≡ judged_reply_of v }
-{
-    let f = v.finding;
-    RdeVerdictAnswer {
-        refusal: 0,
-        broken: v.broken,
-        exceeded: model::bit(v.exceeded),
-        word: verdict::finding_code(f),
-    }
-}
+impl From<Result<Verdict, Refusal>> for RdeVerdictAnswer {
+    ghost from_gives = { λ answer reply. reply ≡ verdict_reply_of answer };
 
-fn verdict_reply(a: VerdictAnswer) -> RdeVerdictAnswer
-    ensures { result ≡ verdict_reply_of a }
-{
-    match a {
-        VerdictAnswer::Judged(v) => judged_reply(v),
-        VerdictAnswer::Refused(k) => RdeVerdictAnswer {
-            refusal: k,
-            broken: 0,
-            exceeded: 0,
-            word: 0,
-        },
+    fn from(answer: Result<Verdict, Refusal>) -> RdeVerdictAnswer {
+        match answer {
+            Ok(verdict) => RdeVerdictAnswer {
+                refusal: 0,
+                broken: verdict.broken,
+                exceeded: model::bit(verdict.exceeded),
+                word: u32::from(verdict.finding),
+            },
+            Err(refusal) => RdeVerdictAnswer {
+                refusal: u32::from(refusal),
+                broken: 0,
+                exceeded: 0,
+                word: 0,
+            },
+        }
     }
 }
 
@@ -80,54 +74,54 @@ pub fn rde_area_len() -> usize
 pub fn rde_clear(area: &mut [u8]) -> RdeAnswer
     ensures { Exported model.clear area.old (plain result) area.new }
 {
-    reply(calls::clear(area))
+    RdeAnswer::from(calls::clear(area))
 }
 
 // Declares a window.
 pub fn rde_declare(area: &mut [u8], record: &[u8]) -> RdeAnswer
     ensures { Exported (model.declare «record».now) area.old (plain result) area.new }
 {
-    reply(record_calls::declare(area, record))
+    RdeAnswer::from(record_calls::declare(area, record))
 }
 
 // Takes a sample.
 pub fn rde_sample(area: &mut [u8], record: &[u8]) -> RdeAnswer
     ensures { Exported (model.sample «record».now) area.old (plain result) area.new }
 {
-    reply(record_calls::sample(area, record))
+    RdeAnswer::from(record_calls::sample(area, record))
 }
 
 // Closes the trip.
 pub fn rde_close(area: &mut [u8]) -> RdeAnswer
     ensures { Exported model.close area.old (plain result) area.new }
 {
-    reply(calls::close(area))
+    RdeAnswer::from(calls::close(area))
 }
 
 // Reads a window.
 pub fn rde_read(area: &[u8], window: u32) -> RdeAnswer
     ensures { Exported (model.read window) area.now (plain result) area.now }
 {
-    reply(calls::read(area, window))
+    RdeAnswer::from(calls::read(area, window))
 }
 
 // The verdict on the samples so far.
 pub fn rde_verdict(area: &[u8]) -> RdeVerdictAnswer
     ensures { Exported model.verdict area.now (judgement result) area.now }
 {
-    verdict_reply(calls::verdict(area))
+    RdeVerdictAnswer::from(calls::verdict(area))
 }
 
 // The tally of a block of sample records.
 pub fn rde_tally(block: &[u8], out: &mut [u8]) -> RdeAnswer
     ensures { Told (Writes (tallied block.now (length out.old)) out.old out.new) result }
 {
-    reply(tally_calls::tally_block(block, out))
+    RdeAnswer::from(tally_calls::tally_block(block, out))
 }
 
 // The tally of two tallies' samples together.
 pub fn rde_join(a: &[u8], b: &[u8], out: &mut [u8]) -> RdeAnswer
     ensures { Told (Writes (joined a.now b.now (length out.old)) out.old out.new) result }
 {
-    reply(tally_calls::join_tallies(a, b, out))
+    RdeAnswer::from(tally_calls::join_tallies(a, b, out))
 }

@@ -1,4 +1,5 @@
 // What C links: every exported function, as crate monitor has it, with the same contract. include/rde.h declares them.
+// The functions stand twice since a static library is no library, and the theorem about the exported calls stands over one.
 #![tactic(auto)]
 
 ghost use Rattle.std.specs.Prelude.{◌≡◌, length};

@@ -35,25 +35,25 @@ module _ (s : List ℕ) (m p : ℕ) (z : ℤ) (at : Placed z s m p) where
   gone : Sorted (values_of s m) → In z (values_of s m) → remove_one z (values_of s m) ≡ without p (values_of s m)
   gone w i = rw (at.place w) (place_remove z (values_of s m) w i)
 
-  -- s has become t, whose hole is at i
-  module _ (t : List ℕ) (i : ℕ) (size : length t ≡ length s) where
-    pub inserted : (u : List ℕ) → 4 * m + 4 ≤ length s → Moved m i s t → i ≡ p → Put p z t u → Inserted z m s u
-    inserted u l h e w sorted =
+  -- s has become t by moving the hole
+  module _ (t : List ℕ) (size : length t ≡ length s) where
+    pub inserted : (u : List ℕ) → 4 * m + 4 ≤ length s → Moved m p s t → Put p z t u → Inserted z m s u
+    inserted u l h w sorted =
         let within = at.within in
         rw (add-one m)
         (filled t u (suc m) p z (values_of s m) (omega arith) (omega arith) w
-        (rw e at (h (suc m) (omega arith) (omega arith) (omega arith)) ∙ hole_last s m) sorted (at.place sorted))
+        (h (suc m) (omega arith) (omega arith) (omega arith) ∙ hole_last s m) sorted (at.place sorted))
 
-    module _ (l : 4 * m ≤ length s) (h : Moved p i s t) where
-      pub removed : m ≡ suc i → Removed z m s t
-      removed e sorted there =
-          let last : m - 1 ≡ i = omega arith in
-          rw last (sym (hole_last t i) ∙ ap (λ (n : ℕ). without i (values_of t n)) (sym e) ∙ h m (present sorted there) (omega arith) l ∙ sym (gone sorted there))
+    module _ (l : 4 * m ≤ length s) where
+      pub removed : p < m → Moved p (m - 1) s t → Removed z m s t
+      removed some h sorted there =
+          let last : suc (m - 1) ≡ m = omega arith in
+          sym (hole_last t (m - 1)) ∙ ap (λ (n : ℕ). without (m - 1) (values_of t n)) last ∙ h m some (omega arith) l ∙ sym (gone sorted there)
 
       -- new's place was q, and is r once z has gone
-      pub replaced : (u : List ℕ) (q r : ℕ) (new : ℤ) → Placed new s m q → q ≡ r + bit (ltb p q) → r < m → i ≡ r → Put r new t u → Replaced z new m s u
-      replaced u q r new to e room f w sorted there =
+      pub replaced : (u : List ℕ) (q r : ℕ) (new : ℤ) → Placed new s m q → q ≡ r + bit (ltb p q) → r < m → Moved p r s t → Put r new t u → Replaced z new m s u
+      replaced u q r new to e room h w sorted there =
           let xs = values_of s m in
           let here : r ≡ place_of new (without p xs) = omega (arith, rw (← to.place sorted) at (place_without new xs p sorted)) in
           rw (gone sorted there)
-          (filled t u m r new (without p xs) room (omega arith) w (rw f at (h m (present sorted there) (omega arith) l)) (sorted_without xs p sorted) here)
+          (filled t u m r new (without p xs) room (omega arith) w (h m (present sorted there) room l) (sorted_without xs p sorted) here)

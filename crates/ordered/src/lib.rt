@@ -7,12 +7,13 @@ ghost use Rattle.search.specs.Place.{Sought};
 ghost use Rattle.ordered.specs.Kept.{Inserted, Removed, Replaced};
 
 // z goes to its place among the first m values, which are in order.
+#[tactic(auto, using(search::specs::Place::sought))]
 pub fn insert(store: &mut [u8], m: usize, z: i64)
     requires { (4 * m + 4 ≤ length store.old) × Storable z }
     ensures { Inserted z m store.old store.new }
 {
     let p = search::place(store, m, z);
-    cells::move_down(store, m, m - p);
+    cells::move_hole(store, m, p);
     cells::put(store, p, z);
 }
 
@@ -23,11 +24,12 @@ pub fn remove(store: &mut [u8], m: usize, z: i64)
 {
     let p = search::place(store, m, z);
     if p < m {
-        cells::move_up(store, p, m - 1 - p);
+        cells::move_hole(store, p, m - 1);
     }
 }
 
 // One old goes from the first m values, which are in order and of which it is one, and new comes: only the cells between move.
+#[tactic(auto, using(search::specs::Place::sought))]
 pub fn replace(store: &mut [u8], m: usize, old: i64, new: i64)
     requires { (4 * m ≤ length store.old) × Sought old × Storable new }
     ensures { Replaced old new m store.old store.new }
@@ -35,12 +37,8 @@ pub fn replace(store: &mut [u8], m: usize, old: i64, new: i64)
     let p = search::place(store, m, old);
     let q = search::place(store, m, new);
     if p < m {
-        if p < q {
-            cells::move_up(store, p, q - 1 - p);
-            cells::put(store, q - 1, new);
-        } else {
-            cells::move_down(store, p, p - q);
-            cells::put(store, q, new);
-        }
+        let to = if p < q { q - 1 } else { q };
+        cells::move_hole(store, p, to);
+        cells::put(store, to, new);
     }
 }

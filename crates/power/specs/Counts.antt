@@ -14,18 +14,18 @@ use Rattle.model.specs.Numbers.{bit, range, count}
 use Rattle.model.specs.Records.{tenths}
 use Rattle.laws.specs.Lists.{range_snoc, count_append}
 use Rattle.limits.specs.declared.PowerLimit.{PowerLimit}
+use Rattle.limits.specs.declared.per_class.PerClass.{PerClass}
+use Rattle.limits.specs.PerClass.{value_in}
 use Rattle.limits.specs.Line.{limit_of}
-use Rattle.acceleration.specs.declared.PerClass.{PerClass}
 use Rattle.acceleration.specs.declared.Counts.{Counts}
-use Rattle.acceleration.specs.declared.PowerBounds.{PowerBounds}
-use Rattle.acceleration.specs.declared.PowerLimits.{PowerLimits}
-use Rattle.acceleration.specs.Bound.{limit_in, bound_in, BoundsOf}
+use Rattle.acceleration.specs.declared.Power.{Power}
+use Rattle.acceleration.specs.Bound.{BoundsOf}
 use Rattle.acceleration.specs.Sample.{rise_of, accelerates_in, within_in, accelerates, within, accelerates_is, within_is, none_after}
 use Rattle.acceleration.specs.Sample.{MostCounts, raised, counted, no_counts, most_more, counted_most, raised_by}
 use Rattle.power.specs.Speeds.{speed_in, speed_before_in, acceleration_in, speed_past}
 
 -- the limits of a trip's classes
-unfoldable pub limits_of : Tally → PowerLimits
+unfoldable pub limits_of : Tally → PerClass PowerLimit
 limits_of t = record { urban = limit_of t.urban; rural = limit_of t.rural; motorway = limit_of t.motorway }
 
 -- second i is an accelerating one of the class, and its power is not beyond the limit
@@ -36,17 +36,17 @@ abbrev pub within_at : SpeedClass → PowerLimit → List ℕ → ℕ → Bool
 within_at c l vs i = within_in c l (speed_in vs i) (acceleration_in vs i)
 
 -- how many of the first m seconds pass a test of each class
-abbrev counts_in : (SpeedClass → ℕ → Bool) → ℕ → PerClass
+abbrev counts_in : (SpeedClass → ℕ → Bool) → ℕ → PerClass ℕ
 counts_in t m = record {
   urban = count (t Urban) (range 0 m);
   rural = count (t Rural) (range 0 m);
   motorway = count (t Motorway) (range 0 m);
 }
 
-unfoldable pub counts_of : PowerLimits → List ℕ → ℕ → Counts
+unfoldable pub counts_of : PerClass PowerLimit → List ℕ → ℕ → Counts
 counts_of l vs m = record {
   accelerating = counts_in (λ c. accelerates_at c vs) m;
-  within = counts_in (λ c. within_at c (limit_in l c) vs) m;
+  within = counts_in (λ c. within_at c (value_in l c) vs) m;
 }
 
 -- a test over one second more
@@ -67,11 +67,11 @@ counts_still t m e =
     ∙ rw (add-zero (count (t Urban) (range 0 m)), add-zero (count (t Rural) (range 0 m)), add-zero (count (t Motorway) (range 0 m)))
 
 -- What the walk has counted of the first m seconds: whatever the limits of which these are the bounds.
-pub record CountedTo (b : PowerBounds) (vs : List ℕ) (m : ℕ) (k : Counts) : Type 0 where
+pub record CountedTo (b : PerClass Power) (vs : List ℕ) (m : ℕ) (k : Counts) : Type 0 where
   pub most : MostCounts m k
-  pub is : (l : PowerLimits) → BoundsOf l b → k ≡ counts_of l vs m
+  pub is : (l : PerClass PowerLimit) → BoundsOf l b → k ≡ counts_of l vs m
 
-module _ (b : PowerBounds) (vs : List ℕ) where
+module _ (b : PerClass Power) (vs : List ℕ) where
   pub counted_none : CountedTo b vs 0 no_counts
   unfolding counts_of count range
   counted_none = record {
@@ -91,17 +91,17 @@ module _ (b : PowerBounds) (vs : List ℕ) where
       accelerating_next : (c : SpeedClass) → accelerates c v (rise_of next previous) ≡ accelerates_at c vs m
       accelerating_next c = accelerates_is c v next previous ∙ rw (ev, en, ep, add-one m)
 
-      within_next : (l : PowerLimits) → BoundsOf l b → (c : SpeedClass)
-          → within c (bound_in b c) v (rise_of next previous) ≡ within_at c (limit_in l c) vs m
-      within_next l h c = within_is c v next previous (limit_in l c) (bound_in b c) (h c) kv kn ∙ rw (ev, en, ep, add-one m)
+      within_next : (l : PerClass PowerLimit) → BoundsOf l b → (c : SpeedClass)
+          → within c (value_in b c) v (rise_of next previous) ≡ within_at c (value_in l c) vs m
+      within_next l h c = within_is c v next previous (value_in l c) (value_in b c) (h c) kv kn ∙ rw (ev, en, ep, add-one m)
 
-      after_is : (l : PowerLimits) → BoundsOf l b → k ≡ counts_of l vs m → after ≡ counts_of l vs (m + 1)
+      after_is : (l : PerClass PowerLimit) → BoundsOf l b → k ≡ counts_of l vs m → after ≡ counts_of l vs (m + 1)
       unfolding counted counts_of
       after_is l h e =
           rw e
-          (ap₂ (λ (x y : PerClass). record { accelerating = x; within = y })
+          (ap₂ (λ (x y : PerClass ℕ). record { accelerating = x; within = y })
           (raised_by (counts_in (λ c. accelerates_at c vs) m) _ _ accelerating_next ∙ sym (counts_next (λ c. accelerates_at c vs) m))
-          (raised_by (counts_in (λ c. within_at c (limit_in l c) vs) m) _ _ (within_next l h) ∙ sym (counts_next (λ c. within_at c (limit_in l c) vs) m)))
+          (raised_by (counts_in (λ c. within_at c (value_in l c) vs) m) _ _ (within_next l h) ∙ sym (counts_next (λ c. within_at c (value_in l c) vs) m)))
 
       pub counted_next : CountedTo b vs m k → CountedTo b vs (m + 1) after
       counted_next t = record { most = counted_most m b k v (rise_of next previous) t.most; is = λ l h. after_is l h (t.is l h) }
@@ -112,14 +112,14 @@ module _ (b : PowerBounds) (vs : List ℕ) where
     unfolding speed_in
     last_still c = rw (speed_past vs (suc m) (omega arith)) (none_after c (speed_in vs m) (speed_before_in vs m))
 
-    within_still : (l : PowerLimits) (c : SpeedClass) → within_at c (limit_in l c) vs m ≡ false
+    within_still : (l : PerClass PowerLimit) (c : SpeedClass) → within_at c (value_in l c) vs m ≡ false
     unfolding within_in
     within_still l c = rw (last_still c)
 
-    last_is : (l : PowerLimits) → counts_of l vs m ≡ counts_of l vs (m + 1)
+    last_is : (l : PerClass PowerLimit) → counts_of l vs m ≡ counts_of l vs (m + 1)
     unfolding counts_of
     last_is l =
-        sym (rw (counts_still (λ c. accelerates_at c vs) m last_still, counts_still (λ c. within_at c (limit_in l c) vs) m (within_still l)))
+        sym (rw (counts_still (λ c. accelerates_at c vs) m last_still, counts_still (λ c. within_at c (value_in l c) vs) m (within_still l)))
 
     pub counted_last : CountedTo b vs m k → CountedTo b vs (m + 1) k
     counted_last t = record { most = most_more k (omega arith) t.most; is = λ l h. t.is l h ∙ last_is l }

@@ -8,7 +8,7 @@ use Rattle.std.proofs.Math.Path.{sym, ap₂}
 use Rattle.std.proofs.Common.{◌∙◌, true≢false, arith}
 use Rattle.std.proofs.Math.Bool.{Bool, not}
 use mathlib.Core.List.{List, [], ◌∷◌, ◌++◌, map}
-use Rattle.std.proofs.Math.Option.{Option, none, some}
+use Rattle.std.specs.Prelude.{Option, None, Some}
 use Prim.Native.Nat.{ℕ, zero, suc, ◌+◌, ◌*◌}
 use Rattle.std.proofs.Math.IntN.{ℤ}
 use Rattle.std.proofs.Math.ListN.{length-map}
@@ -30,9 +30,9 @@ use Rattle.limits.specs.Line.{limit_of}
 use Rattle.slide.specs.Percentile.{Upward, passes}
 use Rattle.slide.proofs.Percentile.{percentile_passes}
 use Rattle.limits.specs.declared.PowerLimit.{PowerLimit}
-use Rattle.acceleration.specs.declared.PerClass.{PerClass}
+use Rattle.limits.specs.declared.per_class.PerClass.{PerClass}
 use Rattle.acceleration.specs.declared.Counts.{Counts}
-use Rattle.acceleration.specs.Bound.{limit_in, beyond}
+use Rattle.acceleration.specs.Bound.{beyond}
 use Rattle.acceleration.specs.Sample.{power_of, accelerates_in, within_in}
 use Rattle.power.specs.Speeds.{speed_in, acceleration_in, speed_at_lem, acceleration_is}
 use Rattle.power.specs.Counts.{limits_of, accelerates_at, within_at, counts_of}
@@ -49,10 +49,10 @@ abbrev pub class_mask : ℕ → ℕ → ℕ
 class_mask accelerating within = bit (few_rule accelerating) + 8 * bit (power_rule accelerating within)
 
 -- rules 15 to 17, and rules 18 to 20
-abbrev pub accelerating_rules : PerClass → List Bool
+abbrev pub accelerating_rules : PerClass ℕ → List Bool
 accelerating_rules a = few_rule a.urban ∷ few_rule a.rural ∷ few_rule a.motorway ∷ []
 
-abbrev pub power_rules : PerClass → PerClass → List Bool
+abbrev pub power_rules : PerClass ℕ → PerClass ℕ → List Bool
 power_rules a w = power_rule a.urban w.urban ∷ power_rule a.rural w.rural ∷ power_rule a.motorway w.motorway ∷ []
 
 unfoldable pub dynamics_rules : Counts → List Bool
@@ -135,8 +135,8 @@ beyond_upward n s a b h k =
 
 some_passes : (n s : ℕ) (o : Option ℤ) → some_beyond n s o ≡ passes (beyond_limit n s) o
 unfolding some_beyond
-some_passes n s none = refl
-some_passes n s (some p) = refl
+some_passes n s None = refl
+some_passes n s (Some p) = refl
 
 module _ (ss : List Sample) (c : SpeedClass) where
   too_few : too_few_accelerating c ss ≡ few_rule (accelerating_count ss c)
@@ -163,6 +163,6 @@ dynamics_count = 6
 -- rules 15 to 20 of the samples, by their speeds and their tally
 pub dynamics_rules_lem : (ss : List Sample)
     → dynamics_rules (counts_of (limits_of (tally_of ss)) (map speed ss) (length ss)) ≡ take dynamics_count (drop first_dynamics (broken ss))
-unfolding dynamics_rules counts_of limit_in limits_of tally_of broken rules
+unfolding dynamics_rules counts_of limits_of tally_of broken rules
 dynamics_rules_lem ss =
     rw (too_few ss Urban, too_few ss Rural, too_few ss Motorway, power_beyond_lem ss Urban, power_beyond_lem ss Rural, power_beyond_lem ss Motorway)

@@ -9,7 +9,8 @@ ghost use Rattle.power.specs.Speeds.{speeds_of, speed_in, Appended};
 ghost use Rattle.power.specs.Counts.{limits_of, counts_of, CountedTo};
 ghost use Rattle.power.specs.Dynamics.{power_rule, class_mask, dynamics_rules};
 
-use acceleration::{Counts, PowerBounds, PowerLimits};
+use acceleration::{Counts, Power};
+use limits::{PerClass, PowerLimit};
 use model::{Speed, SpeedClass, Tally};
 
 // The speed of second n goes after the first n.
@@ -17,7 +18,7 @@ pub fn append_speed(speeds: &mut [u8], n: usize, v: Speed)
     requires { 2 * n + 2 ≤ length speeds.old }
     ensures { Appended n v speeds.old speeds.new }
 {
-    field::put_u16(speeds, 2 * n, v.0);
+    field::put(speeds, 2 * n, v.0);
 }
 
 // The speed of second i of n.
@@ -25,15 +26,15 @@ fn speed_at(speeds: &[u8], n: usize, i: usize) -> Speed
     requires { (2 * n ≤ length speeds.now) × (i < n) }
     ensures { (result ≡ speed_in (speeds_of speeds.now n) i) × (tenths result < 2 ^ 16) }
 {
-    Speed(field::get_u16(speeds, 2 * i))
+    Speed(field::get(speeds, 2 * i))
 }
 
-// The limits of a trip's classes: the one place that asks for them.
-fn limits_of(t: Tally) -> PowerLimits
+// The limits of a trip's classes: the one place that asks for them, each by name and not by PerClass::of (tests/limit_side.py).
+fn limits_of(t: Tally) -> PerClass<PowerLimit>
     requires { BoundedTally t }
     ensures { result ≡ limits_of t }
 {
-    PowerLimits {
+    PerClass {
         urban: limits::limit_of(SpeedClass::Urban, t.urban),
         rural: limits::limit_of(SpeedClass::Rural, t.rural),
         motorway: limits::limit_of(SpeedClass::Motorway, t.motorway),
@@ -41,7 +42,7 @@ fn limits_of(t: Tally) -> PowerLimits
 }
 
 // The counts of second 0, before which there is no speed.
-fn count_first(speeds: &[u8], n: usize, b: PowerBounds) -> Counts
+fn count_first(speeds: &[u8], n: usize, b: PerClass<Power>) -> Counts
     requires { (2 * n ≤ length speeds.now) × (2 ≤ n) }
     ensures { CountedTo b (speeds_of speeds.now n) 1 result }
 {
@@ -52,7 +53,7 @@ fn count_first(speeds: &[u8], n: usize, b: PowerBounds) -> Counts
 
 // The counts of the first n speeds: one pass, with no test but the loop's own. The last sample is never accelerating, since no speed comes
 // after it.
-fn count_samples(speeds: &[u8], n: usize, b: PowerBounds) -> Counts
+fn count_samples(speeds: &[u8], n: usize, b: PerClass<Power>) -> Counts
     requires { (2 * n ≤ length speeds.now) × (n ≤ max_samples) }
     ensures { CountedTo b (speeds_of speeds.now n) n result }
 {
@@ -61,12 +62,10 @@ fn count_samples(speeds: &[u8], n: usize, b: PowerBounds) -> Counts
     }
     let last = n - 1;
     let mut k = count_first(speeds, n, b);
-    let mut i = 1;
-    while i < last {
+    for i in 1..last {
         let v = speed_at(speeds, n, i);
         let rise = acceleration::rise_of(speed_at(speeds, n, i + 1), speed_at(speeds, n, i - 1));
         k = acceleration::count_sample(k, b, v, rise);
-        i += 1;
     }
     k
 }

@@ -1,3 +1,2 @@
 mod Tests
-mod Answers
 mod Channels

@@ -1,26 +1,28 @@
 -- What holds after some calls of a script, one call more, and each way out. Assumes nothing.
-use mathlib.Core.Bool.{Bool, true, false, not, ◌&&◌}
+use mathlib.Core.Bool.{true, false, not, ◌&&◌}
 use mathlib.Core.List.{List, [], ◌∷◌, ◌++◌, append_assoc, append-nil}
 use mathlib.Core.Path.{◌≡◌, refl, sym, ap, ◌∙◌}
 use Prim.Native.Nat.{ℕ, zero, suc, ◌+◌, ◌*◌, ◌-◌, ◌/◌, ◌≤◌, ◌<◌}
 use native.Mathlib.Omega.{arith}
 use lib.Dec.{leb}
-use lib.ListN.{length, take, drop, length-append, length-drop}
-use lib.Seq.{drop-drop, take_at, take_all}
-use borrow.Author.Tests.{le-leb, lt-leb}
+use lib.ListN.{length, get_or, take, drop, length-append, length-drop}
+use lib.Seq.{take_at, take_all}
+use borrow.Author.Tests.{le-leb, lt-leb, leb-true}
 use Rattle.steps.specs.Step.{Step, Run, done, call, aside}
 use Rattle.field.specs.Le.{bytes_length_lem}
 use Rattle.field.specs.Part.{put, part, put_nil, put_append, put_length, part_same, part_after}
 use Rattle.model.specs.Numbers.{unsigned}
 use Rattle.model.specs.Answers.{finding_code}
 use Rattle.model.specs.Trip.{Call, Answer, number, judged, refused}
-use Rattle.script.specs.Script.{call_length, whole, known, ready, first, decode, fails, calls, erroneous}
+use Rattle.script.specs.Script.{last_kind, call_of, call_length, whole, known, ready, first, decode, fails, calls, erroneous}
+use Rattle.script.specs.Next.{bytes_of}
 use Rattle.answers.specs.Answers.{answer_length, encode, encodes}
-use Rattle.replay.specs.Replayed.{fitting, Called, Replayed}
-use Rattle.script.specs.Place.{inside, ready_whole, failed_at}
+use Rattle.replay.specs.Replayed.{fitting, ended_of, failed_of, Called, Replayed}
+use Rattle.replay.specs.declared.Ending.{Ending}
+use Rattle.replay.specs.declared.Ending.TheVariants.{NoRoom, ScriptEnd, UnknownKind}
 
--- the first calls of the script were made, from the area s₀ and the output o₀, which are now s and o; `from` is the place of the next
-pub record Going (s₀ script o₀ s o : List ℕ) (from made written : ℕ) : Type 0 where
+-- the first calls of the script were made, from the area s₀ and the output o₀, which are now s and o; `rest` is left of the script
+pub record Going (s₀ script o₀ s o rest : List ℕ) (made written : ℕ) : Type 0 where
   pub performed : List Call
   pub given : List Answer
   pub run : Run s₀ performed given s
@@ -29,14 +31,13 @@ pub record Going (s₀ script o₀ s o : List ℕ) (from made written : ℕ) : T
   pub answered : made ≡ length given
   pub size : written ≡ answer_length * made
   pub room : written ≤ length o₀
-  pub passed : 2 * made ≤ from
-  pub within : from ≤ length script
+  pub passed : length rest + 2 * made ≤ length script
   pub area : length s ≡ length s₀
   pub out : length o ≡ length o₀
-  pub rest : calls script ≡ performed ++ decode (length script - made) (drop from script)
-  pub error : erroneous script ≡ fails (length script - made) (drop from script)
+  pub next : calls script ≡ performed ++ decode (length script - made) rest
+  pub error : erroneous script ≡ fails (length script - made) rest
 
-pub going_start : (s script o : List ℕ) → Going s script o s o 0 0 0
+pub going_start : (s script o : List ℕ) → Going s script o s o script 0 0
 unfolding encodes
 going_start s script o =
     let e : length script - 0 ≡ length script = omega arith in
@@ -50,10 +51,9 @@ going_start s script o =
       size = refl;
       room = omega arith;
       passed = omega arith;
-      within = omega arith;
       area = refl;
       out = refl;
-      rest = rw e;
+      next = rw e;
       error = rw e;
     }
 
@@ -91,7 +91,7 @@ put_past xs ys =
     ∙ part_after xs 0 ys (length ys) (length xs) (omega arith)
     ∙ take_all (length xs) (drop (length ys) xs) (omega (arith, length-drop (length ys) xs))
 
--- a script that begins with a call to make, and one that does not
+-- a script that begins with a call to make, with one of an unknown kind, and with no whole one
 ready_more : (most : ℕ) (script : List ℕ) → 0 < most → ready script ≡ true
     → (decode most script ≡ first script ∷ decode (most - 1) (drop (call_length script) script)) × (fails most script ≡ fails (most - 1) (drop (call_length script) script))
 unfolding decode fails
@@ -110,45 +110,10 @@ unfolding fails
 fails_end zero script w h = rw (lt-leb (call_length script) (length script) (omega arith))
 fails_end (suc most) script w h = rw w
 
-module _ {s₀ script o₀ s o : List ℕ} {from made written : ℕ} (g : Going s₀ script o₀ s o from made written) where
-  -- the calls of the script, the next of which is to be made
-  next : ready (drop from script) ≡ true
-      → calls script ≡ (g.performed ++ (first (drop from script) ∷ [])) ++ decode (length script - made - 1) (drop (from + call_length (drop from script)) script)
-  next w =
-      let h : from + call_length (drop from script) ≤ length script = inside script from (ready_whole script from w) g.within in
-      g.rest ∙ rw ((ready_more (length script - made) (drop from script) (omega arith) w).0, drop-drop, append_assoc)
-
-  -- less of the script is left
-  pub closer : {from' : ℕ} → ready (drop from script) ≡ true → from' ≡ from + call_length (drop from script) → length script - from' < length script - from
-  closer w e = omega (arith, inside script from (ready_whole script from w) g.within)
-
-  pub going_more : {from' : ℕ} {s' o' : List ℕ} → ready (drop from script) ≡ true → Called (first (drop from script)) s o written s' o'
-      → from' ≡ from + call_length (drop from script) → written + answer_length ≤ length o₀ → length s' ≡ length s → length o' ≡ length o
-      → Going s₀ script o₀ s' o' from' (made + 1) (written + answer_length)
-  going_more {from'} {s'} {o'} w c e h ls lo =
-      let p : from + call_length (drop from script) ≤ length script = inside script from (ready_whole script from w) g.within in
-      let f : length script - (made + 1) ≡ length script - made - 1 = omega arith in
-      let at : written ≡ 0 + length (encodes g.given) = omega (arith, encodes_length g.given, g.answered, g.size) in
-      record {
-        performed = g.performed ++ (first (drop from script) ∷ []);
-        given = g.given ++ (c.answer ∷ []);
-        run = more g.run c.step;
-        wrote = c.wrote ∙ rw (g.wrote, at, encodes_more g.given c.answer) (put_append o₀ 0 (encodes g.given) (encode c.answer));
-        count = rw length-append (omega arith);
-        answered = rw length-append (omega arith);
-        size = omega arith;
-        room = h;
-        passed = omega arith;
-        within = omega arith;
-        area = ls ∙ g.area;
-        out = lo ∙ g.out;
-        rest = rw (e, f) (next w);
-        error = rw (e, f) (g.error ∙ rw ((ready_more (length script - made) (drop from script) (omega arith) w).1, drop-drop));
-      }
-
-  finish : (ended failed : Bool) → ended ≡ leb (length (calls script)) (length o₀ / answer_length) → failed ≡ (ended && erroneous script)
-      → fitting script (length o₀) ≡ g.performed → Replayed script s₀ o₀ (record { made = made; written = written; ended = ended; failed = failed }) s o
-  finish ended failed n f e =
+module _ {s₀ script o₀ s o rest : List ℕ} {made written : ℕ} (g : Going s₀ script o₀ s o rest made written) where
+  finish : (e : Ending) → ended_of e ≡ leb (length (calls script)) (length o₀ / answer_length) → failed_of e ≡ (ended_of e && erroneous script)
+      → fitting script (length o₀) ≡ g.performed → Replayed script s₀ o₀ (record { made = made; written = written; ending = e }) s o
+  finish ending n f e =
       let l : length (encodes g.given) ≡ written = omega (arith, encodes_length g.given, g.answered, g.size) in
       record {
         made = rw e g.count;
@@ -161,21 +126,63 @@ module _ {s₀ script o₀ s o : List ℕ} {from made written : ℕ} (g : Going 
         past = rw (g.wrote, ← l) (put_past o₀ (encodes g.given));
       }
 
-  -- no call to make is left
-  pub spent : ready (drop from script) ≡ false → (failed : Bool) → failed ≡ whole (drop from script)
-      → Replayed script s₀ o₀ (record { made = made; written = written; ended = true; failed = failed }) s o
-  spent w failed f =
-      let e : calls script ≡ g.performed = g.rest ∙ rw (decode_end (length script - made) (drop from script) w) (append-nil g.performed) in
-      let h : length g.performed ≤ length o₀ / answer_length = omega arith in
-      let x : erroneous script ≡ (whole (drop from script) && not (known (drop from script))) =
-      g.error ∙ fails_end (length script - made) (drop from script) w (rw length-drop (omega arith)) in
-      finish true failed (rw e (sym (le-leb _ _ h))) (f ∙ failed_at script from w ∙ sym x) (rw e (take_all (length o₀ / answer_length) g.performed h))
+  -- the next call is to be made
+  module _ (w : whole rest ≡ true) (k : get_or rest 0 0 ≤ last_kind) where
+    is_ready : ready rest ≡ true
+    is_ready = rw (w, le-leb (get_or rest 0 0) last_kind k)
 
-  -- the next call's answer has no room
-  pub full : ready (drop from script) ≡ true → length o₀ < written + answer_length
-      → Replayed script s₀ o₀ (record { made = made; written = written; ended = false; failed = false }) s o
-  full w h =
-      let k : length g.performed ≡ length o₀ / answer_length = omega arith in
-      let m : length g.performed < length (calls script) = rw (next w, length-append, length-append) (omega arith) in
-      finish false false (sym (lt-leb (length (calls script)) (length o₀ / answer_length) (omega arith))) refl
-      (rw g.rest (take_at g.performed (decode (length script - made) (drop from script)) (length o₀ / answer_length) k))
+    some_left : call_length rest ≤ length rest
+    some_left = leb-true (call_length rest) (length rest) w
+
+    -- the calls of the script, with that one
+    following : calls script ≡ (g.performed ++ (first rest ∷ [])) ++ decode (length script - made - 1) (drop (call_length rest) rest)
+    following = g.next ∙ rw ((ready_more (length script - made) rest (omega (arith, some_left)) is_ready).0, append_assoc)
+
+    pub going_more : {c : Call} {rest' s' o' : List ℕ} → c ≡ call_of (get_or rest 0 0) (bytes_of rest) → rest' ≡ drop (call_length rest) rest
+        → Called c s o written s' o' → written + answer_length ≤ length o₀ → length s' ≡ length s → length o' ≡ length o
+        → Going s₀ script o₀ s' o' rest' (made + 1) (written + answer_length)
+    unfolding first
+    going_more {c} {rest'} {s'} {o'} is e made-call h ls lo =
+        let f : length script - (made + 1) ≡ length script - made - 1 = omega arith in
+        let at : written ≡ 0 + length (encodes g.given) = omega (arith, encodes_length g.given, g.answered, g.size) in
+        record {
+          performed = g.performed ++ (first rest ∷ []);
+          given = g.given ++ (made-call.answer ∷ []);
+          run = more g.run (rw is at made-call.step);
+          wrote = made-call.wrote ∙ rw (g.wrote, at, encodes_more g.given made-call.answer) (put_append o₀ 0 (encodes g.given) (encode made-call.answer));
+          count = rw length-append (omega arith);
+          answered = rw length-append (omega arith);
+          size = omega arith;
+          room = h;
+          passed = omega (arith, some_left, ap length e, length-drop (call_length rest) rest);
+          area = ls ∙ g.area;
+          out = lo ∙ g.out;
+          next = rw (e, f) following;
+          error = rw (e, f) (g.error ∙ (ready_more (length script - made) rest (omega (arith, some_left)) is_ready).1);
+        }
+
+    -- its answer has no room
+    pub full : length o₀ < written + answer_length → Replayed script s₀ o₀ (record { made = made; written = written; ending = NoRoom }) s o
+    full h =
+        let l : length g.performed ≡ length o₀ / answer_length = omega arith in
+        let m : length g.performed < length (calls script) = rw (following, length-append, length-append) (omega arith) in
+        finish NoRoom (sym (lt-leb (length (calls script)) (length o₀ / answer_length) (omega arith))) refl
+        (rw g.next (take_at g.performed (decode (length script - made) rest) (length o₀ / answer_length) l))
+
+  -- no call to make is left
+  all_made : ready rest ≡ false → (e : Ending) → ended_of e ≡ true → failed_of e ≡ (whole rest && not (known rest))
+      → Replayed script s₀ o₀ (record { made = made; written = written; ending = e }) s o
+  all_made w ending n f =
+      let e : calls script ≡ g.performed = g.next ∙ rw (decode_end (length script - made) rest w) (append-nil g.performed) in
+      let h : length g.performed ≤ length o₀ / answer_length = omega arith in
+      let x : erroneous script ≡ (whole rest && not (known rest)) = g.error ∙ fails_end (length script - made) rest w (omega arith) in
+      finish ending (n ∙ rw (e, le-leb _ _ h)) (f ∙ rw (n, x)) (rw e (take_all (length o₀ / answer_length) g.performed h))
+
+  -- what is left begins with no whole call, or with one of an unknown kind
+  pub spent : whole rest ≡ false → Replayed script s₀ o₀ (record { made = made; written = written; ending = ScriptEnd }) s o
+  spent w = all_made (rw w) ScriptEnd refl (rw w)
+
+  pub unknown : whole rest ≡ true → last_kind < get_or rest 0 0 → Replayed script s₀ o₀ (record { made = made; written = written; ending = UnknownKind }) s o
+  unknown w k =
+      let l : known rest ≡ false = lt-leb (get_or rest 0 0) last_kind k in
+      all_made (rw (w, l)) UnknownKind refl (rw (w, l))

@@ -1,5 +1,5 @@
 -- What one call of a script does, what the whole replay promises, and what that comes to by the theorem about every list of calls.
-use Rattle.std.specs.Prelude.{true, ◌&&◌, List, ◌∷◌, ◌≡◌, ℕ, ◌*◌, ◌/◌, ◌≤◌, leb, length, take, drop}
+use Rattle.std.specs.Prelude.{Bool, true, false, ◌&&◌, List, ◌∷◌, ◌≡◌, ℕ, ◌*◌, ◌/◌, ◌≤◌, leb, length, take, drop}
 use Rattle.std.proofs.Common.{sym, ap, ◌∙◌, arith, length-take, take_all, leb-true}
 use Rattle.area.specs.Layout.{area_len}
 use Rattle.area.specs.Stands.{Stands}
@@ -8,6 +8,8 @@ use Rattle.steps.specs.Trace.{Claim, runs, every_list, fresh_runs}
 use Rattle.field.specs.Part.{put}
 use Rattle.model.specs.Trip.{Trip, empty, Call, clear, Answer, answers, after}
 use Rattle.replay.specs.declared.Progress.{Progress}
+use Rattle.replay.specs.declared.Ending.{Ending}
+use Rattle.replay.specs.declared.Ending.TheVariants.{NoRoom, ScriptEnd, UnknownKind}
 use Rattle.laws.specs.Lists.{All}
 use Rattle.script.specs.Script.{calls, erroneous, script_of}
 use Rattle.script.specs.Encoded.{Encodable}
@@ -17,6 +19,17 @@ use Rattle.answers.specs.Answers.{answer_length, encode, encodes}
 -- the calls of a script whose answers have room in so many bytes
 abbrev pub fitting : List ℕ → ℕ → List Call
 fitting script room = take (room / answer_length) (calls script)
+
+-- whether every call of the script was made, and whether one of an unknown kind follows them
+abbrev pub ended_of : Ending → Bool
+ended_of NoRoom = false
+ended_of ScriptEnd = true
+ended_of UnknownKind = true
+
+abbrev pub failed_of : Ending → Bool
+failed_of NoRoom = false
+failed_of ScriptEnd = false
+failed_of UnknownKind = true
 
 -- a call made on an area s, its answer written at a place of the output o
 pub record Called (c : Call) (s o : List ℕ) (place : ℕ) (s' o' : List ℕ) : Type 0 where
@@ -30,9 +43,9 @@ pub record Replayed (script s o : List ℕ) (r : Progress) (s' o' : List ℕ) : 
   pub made : r.made ≡ length (fitting script (length o))
   pub written : r.written ≡ answer_length * r.made
   -- whether these are all the calls of the script
-  pub ended : r.ended ≡ leb (length (calls script)) (length o / answer_length)
+  pub ended : ended_of r.ending ≡ leb (length (calls script)) (length o / answer_length)
   -- whether the script ended with an error: a call of a kind that is not known follows them
-  pub failed : r.failed ≡ (r.ended && erroneous script)
+  pub failed : failed_of r.ending ≡ (ended_of r.ending && erroneous script)
   -- they are made in their order, each on the area as the call before left it, with these answers
   pub given : List Answer
   pub run : Run s (fitting script (length o)) given s'
@@ -46,7 +59,7 @@ module _ {script s o : List ℕ} {r : Progress} {s' o' : List ℕ} (p : Replayed
   replayed_within = omega (arith, p.written, p.made, length-take (length o / answer_length) (calls script))
 
   -- Where the script ended, every call of it was made.
-  pub replayed_whole : r.ended ≡ true → fitting script (length o) ≡ calls script
+  pub replayed_whole : ended_of r.ending ≡ true → fitting script (length o) ≡ calls script
   replayed_whole e = take_all (length o / answer_length) (calls script) (leb-true _ _ (sym p.ended ∙ e))
 
   -- On an area that stands for a trip: the bytes written are the reference model's answers, and the area stands for the model's last trip.
@@ -67,6 +80,6 @@ module _ {script s o : List ℕ} {r : Progress} {s' o' : List ℕ} (p : Replayed
     replayed_fresh = (p.wrote ∙ ap encodes replayed_claim.answered, (fresh_runs size (rw begins at p.run)).1)
 
   -- Every list of calls from a fresh area has a script (crates/script/proofs/Encoded.antt); replayed to its end, it gives the bytes of the reference model's answers to the list.
-  pub replayed_list : (cs : List Call) → All Encodable (clear ∷ cs) → script ≡ script_of (clear ∷ cs) → length s ≡ area_len → r.ended ≡ true
+  pub replayed_list : (cs : List Call) → All Encodable (clear ∷ cs) → script ≡ script_of (clear ∷ cs) → length s ≡ area_len → ended_of r.ending ≡ true
       → take r.written o' ≡ encodes (answers empty (clear ∷ cs))
-  replayed_list cs e is size ended = (replayed_fresh cs (replayed_whole ended ∙ ap calls is ∙ script_calls (clear ∷ cs) e) size).0
+  replayed_list cs e is size all = (replayed_fresh cs (replayed_whole all ∙ ap calls is ∙ script_calls (clear ∷ cs) e) size).0

@@ -2,13 +2,24 @@
 // Crate script says what a script is, specs/Replayed.antt what is promised.
 #![tactic(auto)]
 
-ghost use Rattle.std.specs.Prelude.{true, ◌≡◌, ◌+◌, ◌≤◌, length, drop};
+ghost use Rattle.std.specs.Prelude.{◌+◌, ◌≤◌, length};
 ghost use Rattle.answers.specs.Answers.{answer_length};
-ghost use Rattle.script.specs.Script.{call_of, call_length, ready, first};
+ghost use Rattle.script.specs.Next.{made_call};
 ghost use Rattle.replay.specs.Replayed.{Called, Replayed};
 
 use answers::ANSWER_LEN;
-use script::HEAD_LEN;
+use script::{Call, Calls, Kind};
+
+// How a replay ended.
+#[derive(Clone, Copy, Debug, PartialEq, Eq)]
+pub enum Ending {
+    // The answer of the next call has no room.
+    NoRoom,
+    // Every call of the script was made.
+    ScriptEnd,
+    // Every call before one of an unknown kind was made.
+    UnknownKind,
+}
 
 // How far a replay came.
 #[derive(Clone, Copy)]
@@ -17,75 +28,56 @@ pub struct Progress {
     pub made: usize,
     // Bytes of answers written.
     pub written: usize,
-    // Whether every call of the script was made.
-    pub ended: bool,
-    // Whether what follows them is an error: a call of a kind that is not known.
-    pub failed: bool,
+    pub ending: Ending,
 }
 
-// Makes one call and writes its answer.
-fn call(area: &mut [u8], kind: u8, bytes: &[u8], out: &mut [u8], at: usize)
+// Makes one call and writes its answer. A `match`, since the kinds are closed and each takes other arguments.
+fn perform(area: &mut [u8], call: Call, out: &mut [u8], at: usize)
     requires { at + answer_length ≤ length out.old }
-    ensures { Called (call_of kind bytes.now) area.old out.old at area.new out.new }
+    ensures { Called (made_call call.entry) area.old out.old at area.new out.new }
 {
-    if kind == 0 {
-        answers::put_answer(out, at, calls::clear(area));
-        return;
+    match call.kind {
+        Kind::Clear => answers::put_answer(out, at, calls::clear(area)),
+        Kind::Declare => answers::put_answer(out, at, record_calls::declare(area, call.bytes)),
+        Kind::Sample => answers::put_answer(out, at, record_calls::sample(area, call.bytes)),
+        Kind::Close => answers::put_answer(out, at, calls::close(area)),
+        Kind::Read => {
+            let window = script::window_number(call.bytes);
+            answers::put_answer(out, at, calls::read(area, window));
+        }
+        Kind::Verdict => answers::put_answer(out, at, calls::verdict(area)),
     }
-    if kind == 1 {
-        answers::put_answer(out, at, record_calls::declare(area, bytes));
-        return;
-    }
-    if kind == 2 {
-        answers::put_answer(out, at, record_calls::sample(area, bytes));
-        return;
-    }
-    if kind == 3 {
-        answers::put_answer(out, at, calls::close(area));
-        return;
-    }
-    if kind == 4 {
-        answers::put_answer(out, at, calls::read(area, script::window_number(bytes)));
-        return;
-    }
-    answers::put_verdict_answer(out, at, calls::verdict(area));
 }
 
-// Makes the call at `from` of the script and writes its answer; gives the place of the next call.
-fn perform(area: &mut [u8], script: &[u8], from: usize, out: &mut [u8], at: usize) -> usize
-    requires { (from ≤ length script.now) × (ready (drop from script.now) ≡ true) × (at + answer_length ≤ length out.old) }
-    ensures { (result ≡ from + call_length (drop from script.now)) × Called (first (drop from script.now)) area.old out.old at area.new out.new }
-{
-    let start = from + HEAD_LEN;
-    let end = start + (field::get_u64(script, from + 1) as usize);
-    call(area, script[from], &script[start..end], out, at);
-    end
-}
-
-// Makes the calls of the script in their order, as long as their answers have room, up to a kind that is not known.
+// Makes the calls of the script in their order, as long as their answers have room, up to one of an unknown kind.
 pub fn replay(area: &mut [u8], script: &[u8], out: &mut [u8]) -> Progress
     ensures { Replayed script.now area.old out.old result area.new out.new }
 {
-    let mut from: usize = 0;
-    let mut made: usize = 0;
-    let mut written: usize = 0;
-    while script::has_call(script, from) {
+    let mut made = 0;
+    // A place, and no chunks of `out`: what is written to a chunk is not known once its loan ends.
+    let mut written = 0;
+    for call in Calls::new(script) {
+        let Ok(call) = call else {
+            return Progress {
+                made,
+                written,
+                ending: Ending::UnknownKind,
+            };
+        };
         if out.len() - written < ANSWER_LEN {
             return Progress {
-                made: made,
-                written: written,
-                ended: false,
-                failed: false,
+                made,
+                written,
+                ending: Ending::NoRoom,
             };
         }
-        from = perform(area, script, from, out, written);
+        perform(area, call, out, written);
         made += 1;
         written += ANSWER_LEN;
     }
     Progress {
-        made: made,
-        written: written,
-        ended: true,
-        failed: script::is_whole(script, from),
+        made,
+        written,
+        ending: Ending::ScriptEnd,
     }
 }

@@ -2,52 +2,10 @@
 // standard error, and no report is written then.
 #![tactic(auto)]
 
-ghost use Rattle.std.specs.Prelude.{◌≤◌, length};
-ghost use Rattle.report.specs.Input.{Further};
-
 use std::env::FillError;
 use std::io::{Error, Read};
 use std::rt::{Env, Files};
 use std::{fs, str};
-
-// What was read: so many bytes, up to the end of the input or of the buffer; or the input can't be read.
-#[derive(Clone, Copy)]
-enum Input {
-    Bytes(usize),
-    Unreadable(Error),
-}
-
-// One read into the buffer behind its first `done` bytes: how many bytes the buffer has then, as many as before at the end of the input.
-fn read_more<R: Read>(input: &mut R, buf: &mut [u8], done: usize) -> Input
-    requires { done ≤ length buf.old }
-    ensures { Further done (length buf.new) result }
-{
-    let end = buf.len();
-    match input.read(&mut buf[done..end]) {
-        Ok(n) => Input::Bytes(done + n),
-        Err(e) => Input::Unreadable(e),
-    }
-}
-
-fn read_all<R: Read>(input: &mut R, buf: &mut [u8]) -> Input
-    ensures { Further 0 (length buf.new) result }
-{
-    let mut done: usize = 0;
-    while done < buf.len() {
-        match read_more(input, buf, done) {
-            Input::Unreadable(e) => {
-                return Input::Unreadable(e);
-            }
-            Input::Bytes(n) => {
-                if n == done {
-                    return Input::Bytes(done);
-                }
-                done = n;
-            }
-        }
-    }
-    Input::Bytes(done)
-}
 
 // The system's words for an error: std's text without the number that it ends with.
 fn words(text: &str) -> &str {
@@ -66,8 +24,8 @@ fn tell(rt: &(impl Eprint + Alloc), what: &str, name: &str, error: Error) {
 }
 
 // Writes a text to standard output.
-fn write_out(rt: &(impl Print + Eprint + Alloc), text: &[u8]) {
-    if let Err(e) = rt.write_all(text) {
+fn write_out(rt: &(impl Print + Eprint + Alloc), text: &str) {
+    if let Err(e) = rt.write_all(text.as_bytes()) {
         tell(rt, "output not written", "", e);
     }
 }
@@ -75,17 +33,16 @@ fn write_out(rt: &(impl Print + Eprint + Alloc), text: &[u8]) {
 // Writes the report of a recording.
 fn write_report(rt: &(impl Print + Eprint + Alloc), input: &[u8]) {
     let mut area = [0u8; area::AREA_LEN];
-    let mut out = [0u8; report_text::TEXT_LEN];
-    let end = recording::report(&mut area, input, &mut out);
-    write_out(rt, &out[..end]);
+    let text = recording::report(&mut area, input);
+    write_out(rt, text.as_str());
 }
 
 // Judges the drive that a reader gives; `name` is for messages.
 fn judge<R: Read>(rt: &(impl Print + Eprint + Alloc), input: &mut R, name: &str) {
     let mut buf = [0u8; recording::ENOUGH];
-    match read_all(input, &mut buf) {
-        Input::Bytes(len) => write_report(rt, &buf[..len]),
-        Input::Unreadable(e) => tell(rt, "cannot read ", name, e),
+    match input::read_full(input, &mut buf) {
+        Ok(len) => write_report(rt, &buf[..len]),
+        Err(failed) => tell(rt, "cannot read ", name, failed.error),
     }
 }
 
@@ -97,25 +54,10 @@ fn judge_file(rt: &(impl Files + Print + Eprint + Alloc), name: &str) {
     }
 }
 
-// Whether two words are the same.
-fn is_same(a: &[u8], b: &[u8]) -> bool {
-    if a.len() != b.len() {
-        return false;
-    }
-    let mut i: usize = 0;
-    while i < a.len() {
-        if a[i] != b[i] {
-            return false;
-        }
-        i += 1;
-    }
-    true
-}
-
 fn help(rt: &(impl Print + Eprint + Alloc)) {
     write_out(
         rt,
-        b"usage: report [FILE]
+        "usage: report [FILE]
 Judges a recorded drive: reads sample records of 16 bytes, one for each second from 0 on, from FILE or else from standard input.
 It writes three lines:
   samples N           the samples taken
@@ -130,7 +72,8 @@ What goes wrong is told on standard error, with no report. The exit status is 0 
     );
 }
 
-// Whether the program was given an argument of this number; the first after its name is 1.
+// Whether the program was given an argument of this number; the first after its name is 1. Not by `env::args`: it allocates, and has one error
+// for a name that is too long and for one that is not text.
 fn has_argument(rt: &impl Env, i: usize) -> bool {
     let mut byte = [0u8; 1];
     match rt.arg(i, &mut byte) {
@@ -153,11 +96,8 @@ fn main(rt: HostRuntime) {
         let _ = eprintln!(rt; "report: the file's name: File name too long");
         return;
     };
-    if is_same(&word[..len], b"--help") {
-        help(&rt);
-        return;
-    }
     match str::from_utf8(&word[..len]) {
+        Ok("--help") => help(&rt),
         Ok(name) => judge_file(&rt, name),
         Err(_) => {
             let _ = eprintln!(rt; "report: the file's name: not UTF-8 text");

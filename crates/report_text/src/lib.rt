@@ -1,71 +1,76 @@
-// The text that the program `report` writes, put into a lent buffer.
+// The text that the program `report` writes.
 #![tactic(auto)]
 
-ghost use Rattle.std.specs.Prelude.{◌+◌, ◌≤◌, length};
+ghost use Rattle.std.specs.Prelude.{◌≡◌, ◌+◌, ◌≤◌};
+ghost use Rattle.arrayvec.specs.ArrayString.{array_string_len};
 ghost use Rattle.model.specs.Report.{finding_text, accepted_text, refused_text};
 ghost use Rattle.text.specs.Append.{Appended};
-ghost use Rattle.report_text.specs.Lines.{Written, samples_line, broken_line, verdict_line};
+ghost use Rattle.report_text.specs.Lines.{samples_line, broken_line, verdict_line};
 
+use arrayvec::ArrayString;
 use model::{Finding, Verdict};
 
-// Every text fits a buffer of this length.
+// Every text fits this many bytes.
 pub const TEXT_LEN: usize = 80;
 
-// Each `put_` function writes behind the first `at` bytes, and answers where its text ends.
-fn put_finding(out: &mut [u8], at: usize, f: Finding) -> usize
-    requires { at + 25 ≤ length out.old }
-    ensures { Appended out.old at 25 (finding_text f) result out.new }
+// A text of fixed capacity: nothing is allocated.
+pub type Text = ArrayString<TEXT_LEN>;
+
+fn push_finding(out: &mut Text, f: Finding)
+    requires { array_string_len out.old + 25 ≤ TEXT_LEN }
+    ensures { Appended out.old.bytes 25 (finding_text f) out.new.bytes }
 {
     match f {
-        Finding::Rule(k) => text::put_number(out, at, b"rule ", k),
-        Finding::Exceeded => text::put_text(out, at, b"exceeded"),
-        Finding::Clean => text::put_text(out, at, b"clean"),
+        Finding::Rule(k) => text::push_number(out, "rule ", k),
+        Finding::Exceeded => out.push_str("exceeded"),
+        Finding::Clean => out.push_str("clean"),
     }
 }
 
-fn put_samples(out: &mut [u8], at: usize, n: u32) -> usize
-    requires { at + 29 ≤ length out.old }
-    ensures { Appended out.old at 29 (samples_line n) result out.new }
+fn push_samples(out: &mut Text, n: u32)
+    requires { array_string_len out.old + 29 ≤ TEXT_LEN }
+    ensures { Appended out.old.bytes 29 (samples_line n) out.new.bytes }
 {
-    let p = text::put_number(out, at, b"samples ", n);
-    text::put_text(out, p, b"\n")
+    text::push_number(out, "samples ", n);
+    out.push_str("\n");
 }
 
-fn put_broken(out: &mut [u8], at: usize, broken: u32) -> usize
-    requires { at + 16 ≤ length out.old }
-    ensures { Appended out.old at 16 (broken_line broken) result out.new }
+fn push_broken(out: &mut Text, broken: u32)
+    requires { array_string_len out.old + 16 ≤ TEXT_LEN }
+    ensures { Appended out.old.bytes 16 (broken_line broken) out.new.bytes }
 {
-    let p = text::put_text(out, at, b"broken ");
-    let q = text::put_hex(out, p, 8, broken);
-    text::put_text(out, q, b"\n")
+    out.push_str("broken ");
+    text::push_hex(out, 8, broken);
+    out.push_str("\n");
 }
 
-fn put_verdict(out: &mut [u8], at: usize, f: Finding) -> usize
-    requires { at + 34 ≤ length out.old }
-    ensures { Appended out.old at 34 (verdict_line f) result out.new }
+fn push_verdict(line: &mut Text, f: Finding)
+    requires { array_string_len line.old + 34 ≤ TEXT_LEN }
+    ensures { Appended line.old.bytes 34 (verdict_line f) line.new.bytes }
 {
-    let p = text::put_text(out, at, b"verdict ");
-    let end = put_finding(out, p, f);
-    text::put_text(out, end, b"\n")
+    line.push_str("verdict ");
+    push_finding(line, f);
+    line.push_str("\n");
 }
 
-// The report of a trip of n samples. Answers its length.
-pub fn accepted(out: &mut [u8], n: u32, v: Verdict) -> usize
-    requires { TEXT_LEN ≤ length out.old }
-    ensures { Written (accepted_text n v) result out.new }
+// The report of a trip of n samples.
+pub fn accepted(n: u32, v: Verdict) -> Text
+    ensures { result.bytes ≡ accepted_text n v }
 {
-    let p = put_samples(out, 0, n);
-    let q = put_broken(out, p, v.broken);
-    let finding = v.finding;
-    put_verdict(out, q, finding)
+    let mut out = Text::new();
+    push_samples(&mut out, n);
+    push_broken(&mut out, v.broken);
+    push_verdict(&mut out, v.finding);
+    out
 }
 
-// The report of refusal r after k accepted samples. Answers its length.
-pub fn refused(out: &mut [u8], r: u32, k: u32) -> usize
-    requires { TEXT_LEN ≤ length out.old }
-    ensures { Written (refused_text r k) result out.new }
+// The report of refusal r after k accepted samples. By its number, not as a `Refusal`, which would ask more of callers.
+pub fn refused(r: u32, k: u32) -> Text
+    ensures { result.bytes ≡ refused_text r k }
 {
-    let p = text::put_number(out, 0, b"refused ", r);
-    let q = text::put_number(out, p, b" at ", k);
-    text::put_text(out, q, b"\n")
+    let mut out = Text::new();
+    text::push_number(&mut out, "refused ", r);
+    text::push_number(&mut out, " at ", k);
+    out.push_str("\n");
+    out
 }

@@ -4,7 +4,7 @@
 --     count_after, sum_after     count and sum rolled on
 --     Restocked            the values in order, rolled on
 -- Assumes nothing.
-use Rattle.std.specs.Prelude.{Bool, true, false, ◌&&◌, List, ◌++◌, ◌≡◌, refl, ℕ, ◌+◌, ◌-◌, ◌*◌, ◌^◌, ◌≤◌, ◌<◌, leb, ℤ, pos, negsuc, nat_abs, ◌+ℤ◌, ◌-ℤ◌, length}
+use Rattle.std.specs.Prelude.{Option, Some, None, is_some, unwrap_or, option_to_list, Bool, true, false, ◌&&◌, List, ◌++◌, ◌≡◌, refl, ℕ, ◌+◌, ◌-◌, ◌*◌, ◌^◌, ◌≤◌, ◌<◌, leb, ℤ, pos, negsuc, nat_abs, ◌+ℤ◌, ◌-ℤ◌, length}
 use Rattle.std.proofs.lemmas.Bool.{false≢true}
 use Rattle.std.proofs.Common.{append-nil, ap, ◌∙◌, arith, leb-true, le-leb}
 use Rattle.model.specs.Numbers.{bit, withinℤ, minus}
@@ -12,16 +12,18 @@ use Rattle.model.specs.Records.{max_windows, max_width, max_channel}
 use Rattle.ordered.specs.Kept.{Inserted, Removed, Replaced, kept_enters, kept_leaves, kept_replaced}
 use Rattle.cells.specs.Store.{Storable, values_of}
 use Rattle.laws.specs.Tests.{both, and_both}
-use Rattle.laws.specs.Lists.{one}
 use Rattle.slide.specs.Ordered.{ordered}
-use Rattle.slide.specs.Step.{addend}
 use Rattle.slots.specs.Layout.{part_len}
 use Rattle.rolling.specs.declared.Change.{Change}
 
+-- a value, or 0 where there is none
+abbrev pub or_zero : Option ℤ → ℤ
+or_zero o = unwrap_or o (pos 0)
+
 -- the values of a change are those of any record's channels
 pub record Small (c : Change) : Type 0 where
-  pub old : nat_abs c.old < 2 ^ 32
-  pub new : nat_abs c.new < 2 ^ 32
+  pub old : nat_abs (or_zero c.leaves) < 2 ^ 32
+  pub new : nat_abs (or_zero c.enters) < 2 ^ 32
 
 -- the most that the values in a window's view sum to: no channel is beyond max_channel
 abbrev pub most_sum : ℕ
@@ -30,9 +32,9 @@ most_sum = max_width * max_channel
 -- a store of m values has what leaves, and room for what enters
 pub record Roomy (m : ℕ) (c : Change) : Type 0 where
   pub count : m ≤ max_width
-  pub leaves : bit c.leaves ≤ m
-  pub enters : m + bit c.enters ≤ max_width + bit c.leaves
-  pub new : Storable c.new
+  pub leaves : bit (is_some c.leaves) ≤ m
+  pub enters : m + bit (is_some c.enters) ≤ max_width + bit (is_some c.leaves)
+  pub new : Storable (or_zero c.enters)
 
 -- count m, sum z and the change are within the bounds that every trip keeps
 pub record Rollable (m : ℕ) (z : ℤ) (c : Change) : Type 0 where
@@ -47,10 +49,10 @@ pub record Rolls (p : List ℕ) (k m : ℕ) (z : ℤ) (c : Change) : Type 0 wher
   pub small : Small c
 
 abbrev pub count_after : ℕ → Change → ℕ
-count_after m c = m + bit c.enters - bit c.leaves
+count_after m c = m + bit (is_some c.enters) - bit (is_some c.leaves)
 
 abbrev pub sum_after : ℤ → Change → ℤ
-sum_after z c = (z -ℤ addend c.leaves c.old) +ℤ addend c.enters c.new
+sum_after z c = (z -ℤ or_zero c.leaves) +ℤ or_zero c.enters
 
 -- what a test of any bytes tells
 pub record Rolling (m : ℕ) (z : ℤ) (c : Change) (r : Bool) : Type 0 where
@@ -86,62 +88,43 @@ storable_within (negsuc a) h = and_both (le-leb a most_cell (omega arith)) refl
 
 -- the tests, in the code's order
 abbrev pub count_kept : ℕ → Change → Bool
-count_kept m c = leb (bit c.leaves) m && leb (m + bit c.enters) (max_width + bit c.leaves)
+count_kept m c = leb (bit (is_some c.leaves)) m && leb (m + bit (is_some c.enters)) (max_width + bit (is_some c.leaves))
 
 abbrev pub sum_kept : ℤ → Bool
 sum_kept z = withinℤ (minus most_sum) (pos most_sum) z
 
 abbrev pub new_kept : Change → Bool
-new_kept c = withinℤ (negsuc most_cell) (pos most_cell) c.new
+new_kept c = withinℤ (negsuc most_cell) (pos most_cell) (or_zero c.enters)
 
 pub rolling_tested : (m : ℕ) (z : ℤ) (c : Change) → m ≤ max_width → Rolling m z c (count_kept m c && (sum_kept z && new_kept c))
 rolling_tested m z c h = record {
   sound = λ e.
       let t = both (count_kept m c) (sum_kept z && new_kept c) e in
       let u = both (sum_kept z) (new_kept c) t.1 in
-      let v = both (leb (bit c.leaves) m) (leb (m + bit c.enters) (max_width + bit c.leaves)) t.0 in
+      let v = both (leb (bit (is_some c.leaves)) m) (leb (m + bit (is_some c.enters)) (max_width + bit (is_some c.leaves))) t.0 in
       record {
-        room = record { count = h; leaves = leb-true _ _ v.0; enters = leb-true _ _ v.1; new = within_storable c.new u.1 };
+        room = record { count = h; leaves = leb-true _ _ v.0; enters = leb-true _ _ v.1; new = within_storable (or_zero c.enters) u.1 };
         sum = within_sum z u.0;
       };
   complete = λ r.
       and_both
-      (and_both (le-leb (bit c.leaves) m r.room.leaves) (le-leb (m + bit c.enters) (max_width + bit c.leaves) r.room.enters))
-      (and_both (sum_within z r.sum) (storable_within c.new r.room.new));
+      (and_both (le-leb (bit (is_some c.leaves)) m r.room.leaves) (le-leb (m + bit (is_some c.enters)) (max_width + bit (is_some c.leaves)) r.room.enters))
+      (and_both (sum_within z r.sum) (storable_within (or_zero c.enters) r.room.new));
 }
 
--- The store of values in order: m values in s, of which the old one goes, and the new one comes.
-
-pub record TakenOut (m : ℕ) (c : Change) (s t : List ℕ) : Type 0 where
-  pub values : (zs : List ℤ) → values_of s m ≡ ordered (one c.leaves c.old ++ zs) → values_of t (m - bit c.leaves) ≡ ordered zs
-
-pub record PutIn (m : ℕ) (c : Change) (s t : List ℕ) : Type 0 where
-  pub values : (zs : List ℤ) → values_of s m ≡ ordered zs → values_of t (m + bit c.enters) ≡ ordered (zs ++ one c.enters c.new)
-
+-- the store of values in order: m values in s, of which the old one goes, and the new one comes
 pub record Restocked (m : ℕ) (c : Change) (s t : List ℕ) : Type 0 where
-  pub values : (zs : List ℤ) → values_of s m ≡ ordered (one c.leaves c.old ++ zs) → values_of t (count_after m c) ≡ ordered (zs ++ one c.enters c.new)
+  pub values : (zs : List ℤ) → values_of s m ≡ ordered (option_to_list c.leaves ++ zs) → values_of t (count_after m c) ≡ ordered (zs ++ option_to_list c.enters)
 
 module _ (m : ℕ) (c : Change) (s : List ℕ) where
-  pub none_taken : c.leaves ≡ false → TakenOut m c s s
-  none_taken e = record { values = λ zs h. rw e (ap (values_of s) (omega arith) ∙ rw e at h) }
+  pub unchanged : c.leaves ≡ None → c.enters ≡ None → Restocked m c s s
+  unchanged l e = record { values = λ zs h. rw (l, e, append-nil) (ap (values_of s) (omega arith) ∙ rw l at h) }
 
-  pub one_taken : (t : List ℕ) → c.leaves ≡ true → Removed c.old m s t → TakenOut m c s t
-  one_taken t e f = record { values = λ zs h. rw e (kept_leaves s t m c.old zs (rw e at h) f) }
+  pub one_leaves : (t : List ℕ) (old : ℤ) → c.leaves ≡ Some old → c.enters ≡ None → Removed old m s t → Restocked m c s t
+  one_leaves t old l e f = record { values = λ zs h. rw (l, e, append-nil) (ap (values_of t) (omega arith) ∙ kept_leaves s t m old zs (rw l at h) f) }
 
-  pub none_put : c.enters ≡ false → PutIn m c s s
-  none_put e = record { values = λ zs h. rw (e, append-nil) (ap (values_of s) (omega arith) ∙ h) }
+  pub one_enters : (t : List ℕ) (new : ℤ) → c.leaves ≡ None → c.enters ≡ Some new → Inserted new m s t → Restocked m c s t
+  one_enters t new l e f = record { values = λ zs h. rw (l, e) (ap (values_of t) (omega arith) ∙ kept_enters s t m new zs (rw l at h) f) }
 
-  pub one_put : (t : List ℕ) {z : ℤ} → z ≡ c.new → c.enters ≡ true → Inserted z m s t → PutIn m c s t
-  one_put t n e f = record { values = λ zs h. rw (e, ← n) (kept_enters s t m _ zs h f) }
-
-  pub one_replaced : (t : List ℕ) {old new : ℤ} → old ≡ c.old → new ≡ c.new → c.leaves && c.enters ≡ true → Replaced old new m s t → Restocked m c s t
-  one_replaced t o n e f =
-      let b = both c.leaves c.enters e in
-      record { values = λ zs h. rw (b.0, b.1, ← n) (ap (values_of t) (omega arith) ∙ kept_replaced s t m _ zs (rw (b.0, ← o) at h) _ f) }
-
-  pub restocked : (t u : List ℕ) (l : ℕ) → l ≡ m - bit c.leaves → bit c.leaves ≤ m → TakenOut m c s t → PutIn l c t u → Restocked m c s u
-  restocked t u l e b o i = record {
-    values = λ zs h.
-        let n : count_after m c ≡ l + bit c.enters = omega arith in
-        ap (values_of u) n ∙ i.values zs (ap (values_of t) e ∙ o.values zs h);
-  }
+  pub one_replaced : (t : List ℕ) (old new : ℤ) → c.leaves ≡ Some old → c.enters ≡ Some new → Replaced old new m s t → Restocked m c s t
+  one_replaced t old new l e f = record { values = λ zs h. rw (l, e) (ap (values_of t) (omega arith) ∙ kept_replaced s t m old zs (rw l at h) new f) }

@@ -1,13 +1,10 @@
 // One sample more rolled into a window's count and sum, and into its values in order. Safe on any bytes: numbers are tested before they are used.
 #![tactic(auto)]
 
-ghost use Rattle.std.specs.Prelude.{◌≡◌, ◌+◌, ◌-◌, ◌^◌, ◌≤◌, ◌<◌, nat_abs, length};
-ghost use Rattle.model.specs.Numbers.{bit};
-ghost use Rattle.model.specs.Records.{max_width};
-ghost use Rattle.slide.specs.Step.{addend};
+ghost use Rattle.std.specs.Prelude.{◌≡◌, ◌≤◌, nat_abs, length};
 ghost use Rattle.slots.specs.Layout.{store_len};
 ghost use Rattle.slots.specs.Effects.{Totalled};
-ghost use Rattle.rolling.specs.Change.{Small, Roomy, Rolling, Rolls, most_sum, count_after, sum_after, TakenOut, PutIn, Restocked};
+ghost use Rattle.rolling.specs.Change.{Small, Roomy, Rolling, Rolls, most_sum, count_after, sum_after, Restocked};
 
 use model::{MAX_CHANNEL, MAX_WIDTH};
 
@@ -21,21 +18,11 @@ const LEAST_CELL: i64 = -2_147_483_648;
 
 const MOST_CELL: i64 = 2_147_483_647;
 
-// What one sample more changes in a window: the value that leaves it, and the value that enters.
+// What one sample more changes in a window: the value that leaves it, and the value that enters, where there is one.
 #[derive(Clone, Copy)]
 pub struct Change {
-    pub leaves: bool,
-    pub old: i64,
-    pub enters: bool,
-    pub new: i64,
-}
-
-// z where b holds.
-fn addend(b: bool, z: i64) -> i64
-    requires { nat_abs z < 2 ^ 32 }
-    ensures { (result ≡ addend b z) × (nat_abs result < 2 ^ 32) }
-{
-    if b { z } else { 0 }
+    pub leaves: Option<i64>,
+    pub enters: Option<i64>,
 }
 
 // Whether count m and the sum may be rolled on by a change.
@@ -45,11 +32,12 @@ pub fn rollable(m: u32, sum: i64, c: Change) -> bool
     if MOST_COUNT < m {
         return false;
     }
-    let leaves = model::bit(c.leaves);
-    let enters = model::bit(c.enters);
+    let leaves = model::bit(c.leaves.is_some());
+    let enters = model::bit(c.enters.is_some());
     let count_kept = (leaves <= m) & (m + enters <= MOST_COUNT + leaves);
     let sum_kept = (-MOST_SUM <= sum) & (sum <= MOST_SUM);
-    let new_kept = (LEAST_CELL <= c.new) & (c.new <= MOST_CELL);
+    let new = c.enters.unwrap_or(0);
+    let new_kept = (LEAST_CELL <= new) & (new <= MOST_CELL);
     count_kept & (sum_kept & new_kept)
 }
 
@@ -57,14 +45,14 @@ fn count_after(m: u32, c: Change) -> u32
     requires { Roomy m c }
     ensures { result ≡ count_after m c }
 {
-    m + model::bit(c.enters) - model::bit(c.leaves)
+    m + model::bit(c.enters.is_some()) - model::bit(c.leaves.is_some())
 }
 
 fn sum_after(sum: i64, c: Change) -> i64
     requires { (nat_abs sum ≤ most_sum) × (Small c) }
     ensures { result ≡ sum_after sum c }
 {
-    sum - addend(c.leaves, c.old) + addend(c.enters, c.new)
+    sum - c.leaves.unwrap_or(0) + c.enters.unwrap_or(0)
 }
 
 // Count and sum of slot k: what leaves is taken away, what enters is added.
@@ -77,38 +65,15 @@ pub fn roll(part: &mut [u8], k: usize, m: u32, sum: i64, c: Change)
     slots::put_count_sum(part, k, count, total);
 }
 
-// The value that leaves goes from a store of m values in order; how many stay.
-fn take_out(store: &mut [u8], m: usize, c: Change) -> usize
-    requires { (length store.old ≡ store_len) × (Roomy m c) × (Small c) }
-    ensures { (result ≡ m - bit c.leaves) × (TakenOut m c store.old store.new) }
-{
-    if !c.leaves {
-        return m;
-    }
-    ordered::remove(store, m, c.old);
-    m - 1
-}
-
-// The value that enters comes to a store of m values in order.
-fn put_in(store: &mut [u8], m: usize, c: Change)
-    requires { (length store.old ≡ store_len) × (m + bit c.enters ≤ max_width) × (Roomy (m + bit c.leaves) c) }
-    ensures { PutIn m c store.old store.new }
-{
-    if !c.enters {
-        return;
-    }
-    ordered::insert(store, m, c.new);
-}
-
 // A store of m values in order, rolled on by a change.
 pub fn restock(store: &mut [u8], m: usize, c: Change)
     requires { (length store.old ≡ store_len) × (Roomy m c) × (Small c) }
     ensures { Restocked m c store.old store.new }
 {
-    if c.leaves & c.enters {
-        ordered::replace(store, m, c.old, c.new);
-        return;
+    match (c.leaves, c.enters) {
+        (Some(old), Some(new)) => ordered::replace(store, m, old, new),
+        (Some(old), None) => ordered::remove(store, m, old),
+        (None, Some(new)) => ordered::insert(store, m, new),
+        (None, None) => {}
     }
-    let left = take_out(store, m, c);
-    put_in(store, left, c);
 }

@@ -1,65 +1,33 @@
--- Floor division, what it leaves, and rounding to the nearest, as code makes them.
---     mag_below, mag_above                    a number by its `mag`
---     floor_below, floor_above                what the two arms of the floor compute; negsuc_fits: that they fit
---     rest, rest_below, rest_above            what the floor leaves, as the two arms compute it
+-- What floor division leaves, and rounding to the nearest, as code makes them.
+--     rest, rest_euclid                       what the floor leaves, also as std makes it
 --     rest_is, rest_less                      it is the model's `floor_mod`, and below the count
 --     half_fits, even_is                      the test for an odd number
 --     doubled, round_is                       rounding to the nearest by one comparison
 --     next_fits                               the number above the floor fits where it is the nearest
 -- Assumes nothing.
-use Rattle.std.specs.Prelude.{Bool, not, ◌≡◌, T, eqb, ℤ, negsuc, neg_ℤ, nat_abs, ◌+ℤ◌, ◌-ℤ◌, ◌*ℤ◌}
+use Rattle.std.specs.Prelude.{Bool, not, ◌≡◌, eqb, ℤ, negsuc, neg_ℤ, nat_abs, ◌+ℤ◌, ◌-ℤ◌, ◌*ℤ◌}
 use Rattle.std.proofs.Math.Bool.{true, false, cond}
 use Rattle.std.proofs.Math.Path.{refl}
-use Rattle.std.proofs.Common.{sym, ap, subst, le_refl, mul-le-mul, arith, SFits, of_z}
-use Prim.Native.Nat.{ℕ, zero, suc, ◌+◌, ◌-◌, ◌*◌, ◌/◌, ◌%◌, ◌^◌, ◌≤◌, ◌<◌}
+use Rattle.std.proofs.Common.{sym, ap, le_refl, mul-le-mul, arith, SFits, of_z}
+use Prim.Native.Nat.{ℕ, zero, suc, ◌+◌, ◌-◌, ◌*◌, ◌/◌, ◌%◌, ◌≤◌, ◌<◌}
 use Rattle.std.proofs.Math.Nat.{mod-lt, div-add-mod, mul-suc}
 use borrow.Author.Tests.{ltb-true, ltb-false, le-ltb, lt-ltb}
 use Rattle.std.proofs.Math.Dec.{ltb}
 use Rattle.std.proofs.Math.IntN.{pos, neg_ℤ-neg_ℤ, sub_ℕ}
-use Rattle.std.specs.Int.Signed.{lt_z, mag, quot_z, rem_z}
+use Rattle.std.specs.Int.{int_rem_euclid}
+use Rattle.std.specs.Int.Signed.{quot_z, rem_z}
 use mir.Syntax.{w64}
 use Rattle.model.specs.Numbers.{bit, floor_div, floor_mod, even, round_half_even}
 use Rattle.laws.specs.Signed.{small, abs_mag, abs_add}
 
--- a number below zero and one from zero on, by `mag`
-pub mag_below : (z : ℤ) → lt_z z (pos 0) ≡ true → negsuc 0 -ℤ z ≡ pos (mag z)
-mag_below (pos a) e = absurd (omega (arith, ltb-true a 0 e))
-mag_below (negsuc a) e = rw (le-ltb (suc a) 1 (omega arith)) (ap pos (omega arith))
-
-pub mag_above : (z : ℤ) → lt_z z (pos 0) ≡ false → z ≡ pos (mag z)
-mag_above (pos a) e = refl
-mag_above (negsuc a) e = absurd (subst T e tt)
-
--- what the two arms of the floor compute
-negsuc_is : (m : ℕ) → negsuc 0 -ℤ pos m ≡ negsuc m
-negsuc_is zero = refl
-negsuc_is (suc m) = ap negsuc (omega arith)
-
-pub negsuc_fits : (m : ℕ) → m < 2 ^ 63 → SFits w64 (negsuc 0 -ℤ pos m)
-negsuc_fits m h = rw (negsuc_is m) (record { sfits = h })
-
-pub floor_below : (z : ℤ) (n : ℕ) → lt_z z (pos 0) ≡ true → negsuc 0 -ℤ pos (mag z / n) ≡ floor_div z n
-unfolding floor_div
-floor_below (pos a) n e = absurd (omega (arith, ltb-true a 0 e))
-floor_below (negsuc a) n e = negsuc_is (a / n)
-
-pub floor_above : (z : ℤ) (n : ℕ) → lt_z z (pos 0) ≡ false → pos (mag z / n) ≡ floor_div z n
-unfolding floor_div
-floor_above (pos a) n e = refl
-floor_above (negsuc a) n e = absurd (subst T e tt)
-
--- what it leaves, as a number, and what the two arms compute
+-- what the floor leaves, as a number; std makes the same
 abbrev pub rest : ℤ → ℕ → ℕ
 rest (pos a) n = a % n
 rest (negsuc a) n = n - suc (a % n)
 
-pub rest_below : (z : ℤ) (n : ℕ) → lt_z z (pos 0) ≡ true → n - 1 - mag z % n ≡ rest z n
-rest_below (pos a) n e = absurd (omega (arith, ltb-true a 0 e))
-rest_below (negsuc a) n e = omega arith
-
-pub rest_above : (z : ℤ) (n : ℕ) → lt_z z (pos 0) ≡ false → mag z % n ≡ rest z n
-rest_above (pos a) n e = refl
-rest_above (negsuc a) n e = absurd (subst T e tt)
+pub rest_euclid : (z : ℤ) (n : ℕ) → int_rem_euclid z (pos n) ≡ pos (rest z n)
+rest_euclid (pos a) n = refl
+rest_euclid (negsuc a) n = ap pos (omega arith)
 
 -- a − b from zero on
 sub_is : (a b c : ℕ) → a ≡ b + c → sub_ℕ a b ≡ pos c

@@ -1,2 +1,3 @@
 pub mod Floor
 pub mod Nearest
+pub mod Arms

@@ -2,27 +2,14 @@
 #![tactic(auto)]
 
 ghost use Rattle.std.specs.Prelude.{not, ◌≡◌, ◌<◌, pos};
-ghost use Rattle.std.specs.Int.Signed.{mag};
 ghost use Rattle.model.specs.Numbers.{floor_div, floor_mod, even, round_half_even};
-
-// sum from zero on, below zero its complement, -1 - sum. The magnitude of the least i64 would not fit.
-fn complemented(sum: i64) -> u64
-    ensures { result ≡ mag sum }
-{
-    if sum < 0 {
-        (-1 - sum) as u64
-    } else {
-        sum as u64
-    }
-}
 
 // The floor of sum by count.
 fn floor_div(sum: i64, count: u32) -> i64
     requires { 0 < count }
     ensures { result ≡ floor_div sum count }
 {
-    let quotient = (complemented(sum) / (count as u64)) as i64;
-    if sum < 0 { -1 - quotient } else { quotient }
+    sum.div_euclid(count as i64)
 }
 
 // What the floor leaves of sum. The floor times count is not made: it may be beyond an i64.
@@ -30,9 +17,7 @@ fn floor_mod(sum: i64, count: u32) -> u64
     requires { 0 < count }
     ensures { (pos result ≡ floor_mod sum count) × (result < count) }
 {
-    let n = count as u64;
-    let rest = complemented(sum) % n;
-    if sum < 0 { n - 1 - rest } else { rest }
+    sum.rem_euclid(count as i64) as u64
 }
 
 fn is_odd(z: i64) -> bool

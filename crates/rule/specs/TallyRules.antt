@@ -18,7 +18,7 @@ use Rattle.model.specs.Rules.{rules, distance, too_short, too_long, share_outsid
 use Rattle.model.specs.Rules.{some_above160, too_many_above145, some_temperature_fault, some_altitude_fault}
 use Rattle.model.specs.Tallies.{class_tally, tally_of}
 use Rattle.model.specs.Verdicts.{broken, mask, weighted, gas_factor, nox_limit, exceeded, exceeds_limit}
-use Rattle.limits.specs.Table.{row, figure, share_low, share_high}
+use Rattle.limits.specs.Table.{row_of, share_low, share_high}
 
 -- D of a tally
 abbrev pub distance_of : Tally → Distance
@@ -76,7 +76,7 @@ tally_rules n t = length_rules n ++ share_rules t ++ distance_rules t ++ urban_r
 module _ (ss : List Sample) where
   pub tally_rules_lem : tally_rules (length ss) (tally_of ss) ≡ take tally_rule_count (broken ss)
   unfolding tally_rules broken rules tally_of class_tally distance too_short too_long share_outside too_near stops_outside urban_mean_outside too_few_above100
-      some_above160 too_many_above145 some_temperature_fault some_altitude_fault figure row
+      some_above160 too_many_above145 some_temperature_fault some_altitude_fault row_of
   tally_rules_lem = refl
 
   pub exceeded_is : exceeded_by (tally_of ss) ≡ exceeded ss

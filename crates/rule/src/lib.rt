@@ -24,10 +24,7 @@ fn bits(a: bool, b: bool, c: bool) -> u32
 fn outside(low: u64, high: u64, v: u64) -> bool
     ensures { result ≡ outside low high v }
 {
-    if v < low {
-        return true;
-    }
-    high < v
+    !(low..=high).contains(&v)
 }
 
 // Rules 0 and 1.
@@ -51,9 +48,10 @@ fn share_outside(c: SpeedClass, t: ClassTally, total: Distance) -> bool
     requires { BoundedClass t × (units total ≤ most_distance) }
     ensures { result ≡ share_rule c t total }
 {
+    let share = limits::share_of(c);
     outside(
-        limits::share_low(c) * total.0,
-        limits::share_high(c) * total.0,
+        share.low * total.0,
+        share.high * total.0,
         100 * t.distance.0,
     )
 }

@@ -1,3 +1,3 @@
 -- What the functions on scripts rest on.
-mod Number
+mod Next
 pub mod Encoded

@@ -4,7 +4,7 @@
 -- proofs/Encoded has the laws: every list of calls has a script. Assumes nothing.
 use Rattle.std.specs.Prelude.{◌≡◌, ℕ, ◌^◌, ◌<◌}
 use mathlib.Core.List.{List}
-use Rattle.std.proofs.Math.Option.{some}
+use Rattle.std.specs.Prelude.{Some}
 use Rattle.std.proofs.Math.ListN.{length}
 use Rattle.model.specs.Trip.{Call, clear, declare, sample, close, read, verdict, record_of}
 use Rattle.laws.specs.Lists.{All}
@@ -20,4 +20,4 @@ Encodable verdict = Unit {0}
 
 -- the record that the call lends is of bytes
 abbrev pub OfBytes : Call → Type 0
-OfBytes c = (r : List ℕ) → record_of c ≡ some r → All (λ b. b < 256) r
+OfBytes c = (r : List ℕ) → record_of c ≡ Some r → All (λ b. b < 256) r

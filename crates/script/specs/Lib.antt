@@ -1,4 +1,6 @@
 -- Scripts: lists of calls as bytes.
 pub mod Script
-pub mod Encoded
+pub mod Kind
+pub mod Next
 pub mod Place
+pub mod Encoded

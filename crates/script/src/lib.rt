@@ -1,46 +1,70 @@
-// A script, a list of calls as bytes: whether there is a call at a place, and the number of the window that a call reads.
+// A script, a list of calls as bytes: its calls, one after the other, and the number of the window that a call reads.
 // specs/Script.antt says what a script is, specs/Encoded.antt that every list of calls has one.
 #![tactic(auto)]
 
-ghost use Rattle.std.specs.Prelude.{◌≡◌, ◌≤◌, length, drop};
-ghost use Rattle.script.specs.Script.{window_number, whole, ready};
+ghost use Rattle.std.specs.Prelude.{◌≡◌, length};
+ghost use Rattle.std.specs.Iterator.{at_most};
+ghost use Rattle.script.specs.Script.{window_number};
+ghost use Rattle.script.specs.Next.{rest_of, Reads, Next};
+
+mod kind;
+
+pub use kind::{Kind, UnknownKind};
 
 // Bytes of a call's kind and of the length of what follows, eight bytes.
-pub const HEAD_LEN: usize = 9;
+const HEAD_LEN: usize = 9;
 
-// The kinds of calls are 0 to this.
-const LAST_KIND: u8 = 5;
+// A call: its kind, and its bytes, which are its record or the number of the window that it reads.
+#[derive(Clone, Copy)]
+pub struct Call<'a> {
+    pub kind: Kind,
+    pub bytes: &'a [u8],
+}
 
-// The window that a call reads.
+impl<'a> Call<'a> {
+    fn decode(number: u8, bytes: &'a [u8]) -> Result<Self, UnknownKind>
+        ensures { Reads number bytes.now result }
+    {
+        let kind = Kind::try_from(number)?;
+        Ok(Call { kind, bytes })
+    }
+}
+
+// The calls of a script in their order, up to the last whole one; one of an unknown kind is an error.
+#[derive(Drop)]
+pub struct Calls<'a> {
+    // What is left of the script.
+    rest: &'a [u8],
+}
+
+impl<'a> Iterator for Calls<'a> {
+    type Item = Result<Call<'a>, UnknownKind>;
+
+    ghost next_gives = { Next };
+
+    ghost remaining = { λ s. at_most (length (rest_of s)) };
+
+    fn next(&mut self) -> Option<Result<Call<'a>, UnknownKind>> {
+        let (head, behind) = self.rest.split_at_checked(HEAD_LEN)?;
+        let length = field::get::<u64>(head, 1) as usize;
+        let (bytes, rest) = behind.split_at_checked(length)?;
+        self.rest = rest;
+        Some(Call::decode(head[0], bytes))
+    }
+}
+
+impl<'a> Calls<'a> {
+    pub fn new(script: &'a [u8]) -> Self
+        ensures { rest_of result ≡ script.now }
+    {
+        Calls { rest: script }
+    }
+}
+
+// The window that a call reads. Bytes past the fourth do not count.
 pub fn window_number(bytes: &[u8]) -> u32
     ensures { result ≡ window_number bytes.now }
 {
-    let n = bytes.len();
-    if n < 4 {
-        return field::get_le(bytes, 0, n) as u32;
-    }
-    field::get_u32(bytes, 0)
-}
-
-// Whether the script has the whole of a call from `at` on.
-pub fn is_whole(script: &[u8], at: usize) -> bool
-    requires { at ≤ length script.now }
-    ensures { result ≡ whole (drop at script.now) }
-{
-    let left = script.len() - at;
-    if left < HEAD_LEN {
-        return false;
-    }
-    field::get_u64(script, at + 1) <= (left - HEAD_LEN) as u64
-}
-
-// Whether there is a call to make at `at`: a whole one, of a known kind.
-pub fn has_call(script: &[u8], at: usize) -> bool
-    requires { at ≤ length script.now }
-    ensures { result ≡ ready (drop at script.now) }
-{
-    if is_whole(script, at) {
-        return script[at] <= LAST_KIND;
-    }
-    false
+    // No field of one type: the width is that of the bytes.
+    field::get_le(bytes, 0, bytes.len().min(4)) as u32
 }

@@ -4,7 +4,8 @@
 ghost use Rattle.std.specs.Prelude.{◌≡◌, ◌+◌, ◌*◌, ◌≤◌, length};
 ghost use Rattle.search.specs.Place.{Sought, sought_by, not_less, Placed, Spanned};
 
-// The places of which one is looked for: from lo to lo + len.
+// The places of which one is looked for: from lo to lo + len. Each turn of a loop takes a share of len away, so that no index is counted.
+// Not a Range, whose length each turn would reckon anew, nor the library's binary_search, which branches on the data.
 #[derive(Clone, Copy)]
 struct Span {
     lo: usize,

@@ -7,7 +7,7 @@ use Rattle.std.specs.Prelude.{◌≡◌, Bool, leb, ltb}
 use Rattle.std.proofs.Math.Path.{refl, sym, ap}
 use Rattle.std.proofs.Common.{◌∙◌, true≢false, le-leb}
 use mathlib.Core.List.{List, [], ◌∷◌}
-use Rattle.std.proofs.Math.Option.{some}
+use Rattle.std.specs.Prelude.{Some}
 use Rattle.std.proofs.Math.Bool.{true, false, not}
 use Rattle.std.proofs.lemmas.Bool.{lt-leb, not-true}
 use Prim.Native.Nat.{◌*◌, ◌<◌}
@@ -51,7 +51,7 @@ module _ (zs : List ℤ) (h : 0 < length zs) (d : ℤ) where
   unfolding enough
   rank_enough t = rank_test (λ z. le_z z t) (upto_downward t)
 
-  pub percentile_rank : percentile zs ≡ some (get_or (ordered zs) (rank (length zs)) d)
+  pub percentile_rank : percentile zs ≡ Some (get_or (ordered zs) (rank (length zs)) d)
   unfolding percentile
   percentile_rank =
       smallest_best (filter (enough zs) zs)
@@ -59,7 +59,7 @@ module _ (zs : List ℤ) (h : 0 < length zs) (d : ℤ) where
       (in_filter (enough zs) at_rank zs (in_ordered at_rank zs (in_at d (ordered zs) (rank (length zs)) inside)) (sym (rank_enough at_rank) ∙ le_z_refl at_rank))
       (all_filter _ (enough zs) (λ t e. rank_enough t ∙ e) zs)
 
-module _ (zs : List ℤ) (v : ℤ) (is : percentile zs ≡ some v) where
+module _ (zs : List ℤ) (v : ℤ) (is : percentile zs ≡ Some v) where
   pub percentile_test : (p : ℤ → Bool) → Downward p → p v ≡ leb (95 * length zs) (100 * count p zs)
   percentile_test p down =
       let h : 0 < length zs = percentile_some zs v is in
@@ -86,6 +86,6 @@ module _ (p : ℤ → Bool) (up : Upward p) where
 -- what a window of function 5 reads
 module _ (w : Window) (ss : List Sample) where
   pub reading_percentile : (d : ℤ) → w.function ≡ Percentile → 0 < length (values w ss)
-      → reading w ss ≡ some (get_or (ordered (values w ss)) (rank (length (values w ss))) d)
+      → reading w ss ≡ Some (get_or (ordered (values w ss)) (rank (length (values w ss))) d)
   unfolding figure
   reading_percentile d e h = by_function w ss Percentile e ∙ percentile_rank (values w ss) h d

@@ -9,7 +9,7 @@ use Rattle.std.proofs.Common.{sym, ◌∙◌, arith}
 use Rattle.std.proofs.Math.Path.{ap}
 use Rattle.std.proofs.Math.Bool.{true, false}
 use Rattle.std.proofs.lemmas.Bool.{false≢true}
-use Rattle.std.proofs.Math.Option.{none, some}
+use Rattle.std.specs.Prelude.{None, Some}
 use Rattle.std.proofs.Math.ListN.{length}
 use Rattle.model.specs.declared.Sample.{Sample}
 use Rattle.model.specs.declared.Function.{Function}
@@ -89,16 +89,16 @@ module _ (w : Window) (ss : List Sample) (keeps : keeps_entries w.function ≡ t
   unfolding reading
   reading_best = figure_best w.function keeps (values w ss)
 
-  pub reading_held : (x : ℕ) (xs : List ℕ) → held w ss ≡ x ∷ xs → reading w ss ≡ some (value_at w ss x)
+  pub reading_held : (x : ℕ) (xs : List ℕ) → held w ss ≡ x ∷ xs → reading w ss ≡ Some (value_at w ss x)
   unfolding values
   reading_held x xs e =
       let q = first_best (displaces w.function) (displaces_order w.function keeps) (value_at w ss) x xs (qualifying w ss) (sym (held_is w ss keeps) ∙ e) in
       reading_best ∙ best_is (displaces w.function) (displaces_order w.function keeps) (value_at w ss x) (values w ss) q.0 q.1
 
-  pub reading_first : 0 < length (held w ss) → reading w ss ≡ some (value_at w ss (get_or (held w ss) 0 0))
+  pub reading_first : 0 < length (held w ss) → reading w ss ≡ Some (value_at w ss (get_or (held w ss) 0 0))
   reading_first h = by (held w ss) refl h
     where
-      by : (l : List ℕ) → held w ss ≡ l → 0 < length l → reading w ss ≡ some (value_at w ss (get_or l 0 0))
+      by : (l : List ℕ) → held w ss ≡ l → 0 < length l → reading w ss ≡ Some (value_at w ss (get_or l 0 0))
       by [] e h = absurd (omega arith)
       by (x ∷ xs) e h = reading_held x xs e
 
@@ -106,7 +106,7 @@ module _ (w : Window) (ss : List Sample) (keeps : keeps_entries w.function ≡ t
   unfolding values
   unheld_values e = ap (map (value_at w ss)) (undisplaced_nil (displaced_by w ss) (qualifying w ss) (sym (held_is w ss keeps) ∙ e))
 
-  pub reading_unheld : length (held w ss) ≡ 0 → reading w ss ≡ none
+  pub reading_unheld : length (held w ss) ≡ 0 → reading w ss ≡ None
   unfolding best
   reading_unheld e = reading_best ∙ ap (best (displaces w.function)) (unheld_values (length_zero (held w ss) e))
 

@@ -6,7 +6,7 @@ use Rattle.std.specs.Prelude.{◌≡◌, Bool}
 use Rattle.std.proofs.Math.Path.{refl, sym}
 use Rattle.std.proofs.Common.{◌∙◌}
 use mathlib.Core.List.{List, [], ◌∷◌}
-use Rattle.std.proofs.Math.Option.{Option, none, some}
+use Rattle.std.specs.Prelude.{Option, None, Some}
 use Rattle.std.proofs.Math.Bool.{true, false}
 use Rattle.std.proofs.lemmas.Bool.{false≢true}
 use Prim.Native.Nat.{ℕ, zero, suc, ◌+◌, ◌-◌, ◌*◌, ◌/◌, ◌≤◌, ◌<◌}
@@ -64,15 +64,15 @@ module _ (p : ℤ → Bool) (down : Downward p) (d : ℤ) where
       by true i = omega arith
       by false i = omega arith
 
-pub percentile_empty : percentile [] ≡ none
+pub percentile_empty : percentile [] ≡ None
 unfolding percentile filter smallest
 percentile_empty = refl
 
-pub percentile_some : (zs : List ℤ) (v : ℤ) → percentile zs ≡ some v → 0 < length zs
+pub percentile_some : (zs : List ℤ) (v : ℤ) → percentile zs ≡ Some v → 0 < length zs
 percentile_some [] v e = let z : ◌≡◌ {A = ℕ} 0 1 = cc percentile_empty in omega arith
 percentile_some (z ∷ zs) v e = omega arith
 
 -- a test of what may be missing
 abbrev pub passes : (ℤ → Bool) → Option ℤ → Bool
-passes p none = false
-passes p (some v) = p v
+passes p None = false
+passes p (Some v) = p v

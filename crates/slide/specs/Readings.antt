@@ -5,7 +5,7 @@
 use Rattle.std.specs.Prelude.{◌≡◌, refl, List, [], ◌∷◌, Bool, true, false, ◌<◌, ℤ, pos, length}
 use Rattle.std.proofs.Math.Path.{ap}
 use Rattle.std.proofs.Common.{◌∙◌, arith}
-use Rattle.std.proofs.Math.Option.{none, some}
+use Rattle.std.specs.Prelude.{None, Some}
 use Rattle.std.proofs.lemmas.Bool.{false≢true}
 use Rattle.model.specs.Records.{Window}
 use Rattle.model.specs.declared.Sample.{Sample}
@@ -17,7 +17,7 @@ use Rattle.laws.specs.Lists.{length_zero}
 use Rattle.slide.specs.Percentile.{percentile_empty}
 
 -- the average by the count and the sum
-average_is : (zs : List ℤ) → 0 < length zs → average zs ≡ some (floor_div (sumℤ zs) (length zs))
+average_is : (zs : List ℤ) → 0 < length zs → average zs ≡ Some (floor_div (sumℤ zs) (length zs))
 unfolding average
 average_is [] h = absurd (omega arith)
 average_is (z ∷ zs) h = refl
@@ -31,7 +31,7 @@ needs_values Largest = true
 needs_values Average = true
 needs_values Percentile = true
 
-pub figure_none : (f : Function) → needs_values f ≡ true → figure f [] ≡ none
+pub figure_none : (f : Function) → needs_values f ≡ true → figure f [] ≡ None
 unfolding needs_values figure smallest largest average
 figure_none Count e = absurd (false≢true e)
 figure_none Sum e = absurd (false≢true e)
@@ -45,18 +45,18 @@ module _ (w : Window) (ss : List Sample) where
   unfolding reading
   by_function f e = ap (λ (g : Function). figure g (values w ss)) e
 
-  pub reading_count : w.function ≡ Count → reading w ss ≡ some (pos (length (values w ss)))
+  pub reading_count : w.function ≡ Count → reading w ss ≡ Some (pos (length (values w ss)))
   unfolding figure
   reading_count e = by_function Count e
 
-  pub reading_sum : w.function ≡ Sum → reading w ss ≡ some (sumℤ (values w ss))
+  pub reading_sum : w.function ≡ Sum → reading w ss ≡ Some (sumℤ (values w ss))
   unfolding figure
   reading_sum e = by_function Sum e
 
-  pub reading_average : w.function ≡ Average → 0 < length (values w ss) → reading w ss ≡ some (floor_div (sumℤ (values w ss)) (length (values w ss)))
+  pub reading_average : w.function ≡ Average → 0 < length (values w ss) → reading w ss ≡ Some (floor_div (sumℤ (values w ss)) (length (values w ss)))
   unfolding figure
   reading_average e h = by_function Average e ∙ average_is (values w ss) h
 
-  pub reading_none : needs_values w.function ≡ true → length (values w ss) ≡ 0 → reading w ss ≡ none
+  pub reading_none : needs_values w.function ≡ true → length (values w ss) ≡ 0 → reading w ss ≡ None
   unfolding reading
   reading_none e h = ap (figure w.function) (length_zero (values w ss) h) ∙ figure_none w.function e

@@ -1,10 +1,10 @@
 -- What the code reads of the part, as its numbers come, is what the definitions say. Assumes nothing.
-use mathlib.Core.Path.{◌≡◌, refl, ap, ◌∙◌}
+use mathlib.Core.Path.{◌≡◌, refl, ◌∙◌}
 use mathlib.Core.Bool.{◌&&◌}
 use mathlib.Core.List.{List}
-use Prim.Native.Nat.{ℕ, ◌^◌, ◌<◌}
+use Prim.Native.Nat.{ℕ}
 use native.Mathlib.Omega.{arith}
-use lib.IntN.{ℤ, nat_abs}
+use lib.IntN.{ℤ}
 use lib.Signed.{le_z}
 use mir.Syntax.{Width, w32, w64}
 use mir.Val.{SFits, to_z, of_z}
@@ -13,19 +13,14 @@ use Rattle.model.specs.Numbers.{withinℤ}
 use Rattle.model.specs.Records.{sample_of, channel}
 use Rattle.laws.specs.Signed.{widened_is}
 use Rattle.slide.specs.Conditions.{qualifies_is}
-use Rattle.slots.specs.Layout.{slot_of, record_of, channel_in, condition_in, low_in, high_in, window_in}
-use Rattle.slots.specs.Layout.{ring_samples, ring_sample, window_low, window_high, window_condition, value_in, qualifies_in}
+use Rattle.slots.specs.Layout.{slot_of, record_of, condition_in, low_in, high_in, window_in}
+use Rattle.slots.specs.Layout.{ring_samples, ring_sample, window_low, window_high, window_condition, qualifies_in}
 
 -- a signed number by way of its bits
 abbrev pub via_bits : Width → ℤ → ℤ
 via_bits w z = to_z w (of_z w z)
 
 module _ (p : List ℕ) (k s : ℕ) where
-  pub value_is : (c : ℕ) (z : ℤ) → c ≡ channel_in (slot_of p k) → (z ≡ channel c (sample_of (record_of p s))) × (nat_abs z < 2 ^ 32) → SFits w64 z
-      → (via_bits w64 z ≡ value_in p k s) × (nat_abs (via_bits w64 z) < 2 ^ 32)
-  unfolding value_in
-  value_is c z e r f = rw (to_z-of_z w64 z f) (r.0 ∙ ap (λ (x : ℕ). channel x (sample_of (record_of p s))) e, r.1)
-
   -- the condition of the slot's window, by the slot's bytes and the ring's record
   qualifies_ring : qualifies_in p k s ≡ withinℤ (low_in (slot_of p k)) (high_in (slot_of p k)) (channel (condition_in (slot_of p k)) (sample_of (record_of p s)))
   unfolding qualifies_in

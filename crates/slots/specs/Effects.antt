@@ -13,7 +13,7 @@ use Rattle.model.specs.Numbers.{le_val, le_at, le_bytes, unsigned}
 use Rattle.model.specs.Records.{record_length, max_windows}
 use Rattle.field.specs.Part.{part, put, Apart, put_length, part_same, part_other, part_in}
 use Rattle.field.specs.Le.{put_le, bytes_length_lem, le_under, le_put, part_le}
-use Rattle.signed_field.specs.Twos.{signed_same}
+use Rattle.field.specs.Twos.{signed_same}
 use Rattle.slots.specs.Layout.{part_len, ring_seconds, expressions_len, expressions_of, front_len, front_of, record_place, record_of, record_front, moves_place}
 use Rattle.slots.specs.Layout.{moves_of, slots_place, slot_len, slot_of, slot_length, count_place, sum_place, totals_len, first_place}
 use Rattle.slots.specs.Layout.{count_in, sum_in, record_in}

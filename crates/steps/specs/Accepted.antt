@@ -1,5 +1,5 @@
 -- Each accepted call, as a law on the area's parts: what it did to them makes them stand for the model's next trip. Assumes nothing.
-use Rattle.std.specs.Prelude.{true, ◌≡◌, ℕ, ◌+◌, ◌^◌, ◌<◌, ℤ, pos, length}
+use Rattle.std.specs.Prelude.{true, ◌≡◌, ℕ, ◌+◌, ◌^◌, ◌<◌, ℤ, pos, length, Option, Some, None, ok_or}
 use mathlib.Core.List.{List, [], ◌∷◌, ◌++◌, map-append}
 use Rattle.std.proofs.Math.Path.{refl, ap, subst}
 use Rattle.std.proofs.Common.{sym, ◌∙◌, mul-le-mul_right, arith, length-append}
@@ -7,6 +7,8 @@ use Rattle.field.specs.Cells.{cells}
 use Rattle.model.specs.declared.Sample.{Sample}
 use Rattle.model.specs.declared.Tally.{Tally}
 use Rattle.model.specs.declared.Verdict.{Verdict}
+use Rattle.model.specs.declared.Refusal.TheVariants.{NoneQualifies}
+use Rattle.model.specs.Answers.{answer_of}
 use Rattle.model.specs.Numbers.{le_val, le_at}
 use Rattle.model.specs.Records.{max_samples, max_windows, sample_of, in_range, window_of, layout_kept}
 use Rattle.model.specs.Rules.{speed}
@@ -21,7 +23,6 @@ use Rattle.altitudes.specs.Ends.{ends_from, EndsOf, with_altitude, ends_with}
 use Rattle.reading.specs.Read.{Reads}
 use Rattle.window.specs.Stand as window
 use Rattle.window.specs.Sweep.{Added}
-use Rattle.reading.specs.declared.Reading.TheVariants.{Value, NoneQualifies}
 use Rattle.area.specs.Layout.{area_len, samples_part, mark_part, windows_part, format_part, tally_part, slots_part, Parts, parts_of, with, format_number, sample_count, closed_mark, window_count, format_mark, tally_in, altitudes_in, speeds_in, slots_in}
 use Rattle.area.specs.Stands.{Holds, Stands, Judges}
 use Rattle.area.specs.Effects.{Changed, Numbered}
@@ -29,7 +30,7 @@ use Rattle.taking.specs.Effects.{Taken, Accepts, number_fine}
 use Rattle.taking.specs.Damaged.{tally_held, sound_held}
 use Rattle.steps.specs.Step.{Step}
 use Rattle.steps.specs.Laws.{unlent, done_step, refused_step}
-use Rattle.steps.specs.Refusals.{declare_other, sample_other, close_other, read_other, verdict_other, declare_whole, sample_whole, close_whole, read_whole, verdict_whole, Lent, sample_left, sample_damaged, declare_left, close_left, read_left}
+use Rattle.steps.specs.Refusals.{close_other, read_other, verdict_other, Admits, sample_answered, declare_answered, sample_left, lent_damaged, sample_lending, declare_left, Marked, close_unlending, read_unlending, verdict_unlending, close_left, read_left}
 
 module _ (p : Parts) (t : Trip) (h : Holds p t) where
   -- the moves of the area are the model's, and few
@@ -63,8 +64,7 @@ taken_holds p q t k n r tl h ek en i et x =
 
 -- what is known of a sample's record and of the area once the refusals before taking it are not given
 pub record Ready (s r : List ℕ) (n : ℕ) : Type 0 where
-  pub lent : Lent s r
-  pub free : closed_mark (parts_of s) ≡ 0
+  pub admits : Admits s r
   pub room : sample_count (parts_of s) < max_samples
   pub turn : le_at 2 r 0 ≡ sample_count (parts_of s)
   pub range : in_range (sample_of r) ≡ true
@@ -73,13 +73,13 @@ pub record Ready (s r : List ℕ) (n : ℕ) : Type 0 where
 module _ {s s' r : List ℕ} {n : ℕ} (size' : length s' ≡ area_len) (b : Ready s r n) where
   sample_done : (z : ℤ) → Accepts r n s (number z) s' → Step (sample r) s (number z) s'
   sample_done z a =
-      done_step (sample r) sample_other s b.lent.size (sample_whole b.lent.whole) b.lent.format (number z) (number_fine z)
+      sample_answered b.admits z
       (λ t st.
       let y = a.taken z refl (sound_held (parts_of s) t st.holds) in
       let h : Holds (parts_of s') (with_sample t (sample_of r)) = taken_holds (parts_of s) (parts_of s') t _ n r _ st.holds refl b.second b.range refl y.0 in
       let m = moves_held (parts_of s') (with_sample t (sample_of r)) h in (
         with_sample t (sample_of r),
-        rw (sample_left s r b.lent b.free b.room b.turn t st, b.range, y.1 m.1, m.0) refl,
+        rw (sample_left b.admits b.room b.turn t st, b.range, y.1 m.1, m.0) refl,
         record { size = size'; holds = h },
       ))
 
@@ -89,7 +89,7 @@ module _ {s s' r : List ℕ} {n : ℕ} (size' : length s' ≡ area_len) (b : Rea
   sample_taken (judged v) x = absurd (x.unjudged v refl)
   sample_taken (refused k) x =
       let y = x.unsound k refl in
-      rw (y.0, y.1.0) (sample_damaged b.lent.size b.lent.whole y.1.1)
+      rw (y.0, y.1.0) (lent_damaged b.admits.size b.admits.whole y.1.1 (sample r) (sample_lending r))
 
 -- the altitudes of equal parts
 same_altitudes : {l m : List ℕ} (ss : List Sample) → m ≡ l → EndsOf ss (ends_from l) → EndsOf ss (ends_from m)
@@ -117,8 +117,7 @@ declared_holds p q t k r h early ek l is more x =
 
 -- what is known of a window's record and of the area once no refusal is given
 pub record Declarable (s r : List ℕ) (k : ℕ) : Type 0 where
-  pub lent : Lent s r
-  pub free : closed_mark (parts_of s) ≡ 0
+  pub admits : Admits s r
   pub early : sample_count (parts_of s) ≡ 0
   pub room : window_count (parts_of s) < max_windows
   pub layout : layout_kept r ≡ true
@@ -132,22 +131,22 @@ declare_done {s} {s'} {r} {k} {z} {p₁} size' b w f ez =
     let slots : slots_in (parts_of s') ≡ slots_in p₁ = ap slots_in f.is in
     let is = f.is ∙ ap (with windows_part (parts_of s' windows_part)) (w.is ∙ ap (λ (l : List ℕ). with slots_part l (parts_of s)) (sym slots)) in
     let added = subst (Added k r (slots_in (parts_of s))) (sym slots) w.by in
-    done_step (declare r) declare_other s b.lent.size (declare_whole b.lent.whole) b.lent.format (number z) (number_fine z)
+    declare_answered b.admits z
     (λ t st. (
       with_window t (window_of r),
-      rw (declare_left s r b.lent b.free b.early b.room t st, b.layout, ez, b.next, st.holds.windows) refl,
+      rw (declare_left b.admits b.early b.room t st, b.layout, ez, b.next, st.holds.windows) refl,
       record { size = size'; holds = declared_holds (parts_of s) (parts_of s') t k r st.holds b.early b.next b.layout is f.value added },
     ))
 
-module _ {s s' : List ℕ} (size : length s ≡ area_len) (size' : length s' ≡ area_len) where
-  pub close_done : format_mark (parts_of s) ≡ format_number → closed_mark (parts_of s) ≡ 0 → Numbered mark_part 1 (parts_of s) (parts_of s') → Step close s (number (pos 0)) s'
+module _ {s s' : List ℕ} (size' : length s' ≡ area_len) where
+  pub close_done : Marked s → closed_mark (parts_of s) ≡ 0 → Numbered mark_part 1 (parts_of s) (parts_of s') → Step close s (number (pos 0)) s'
   unfolding with
-  close_done format free f =
-      done_step close close_other s size close_whole format (number (pos 0)) (number_fine (pos 0))
+  close_done m free f =
+      done_step close close_other s m.size (unlent close close_unlending.unlent) m.format (number (pos 0)) (number_fine (pos 0))
       (λ t st.
       let h = st.holds in (
         closed t,
-        close_left size free t st,
+        close_left m free t st,
         record {
           size = size';
           holds = record {
@@ -164,11 +163,11 @@ module _ {s s' : List ℕ} (size : length s ≡ area_len) (size' : length s' ≡
       ))
 
   -- an area of any bytes is made fresh: the windows, the tally, and the numbers of the head
-  pub clear_done : {u : Tally} {p₁ p₂ p₃ p₄ p₅ : Parts} → Changed slots_part (λ _. window.Stands [] []) (parts_of s) p₁ → u ≡ tally_of [] → p₂ ≡ with tally_part (tally_bytes u) p₁
+  pub clear_done : length s ≡ area_len → {u : Tally} {p₁ p₂ p₃ p₄ p₅ : Parts} → Changed slots_part (λ _. window.Stands [] []) (parts_of s) p₁ → u ≡ tally_of [] → p₂ ≡ with tally_part (tally_bytes u) p₁
       → Numbered format_part format_number p₂ p₃ → Numbered windows_part 0 p₃ p₄ → Numbered mark_part 0 p₄ p₅ → Numbered samples_part 0 p₅ (parts_of s')
       → Step clear s (number (pos 0)) s'
   unfolding outcome said left record_of with
-  clear_done w e a m f g h = record {
+  clear_done size w e a m f g h = record {
     wrong = record { when = λ x. absurd (x size); only = λ x. absurd (number_fine (pos 0) 11 x) };
     sized = record { when = λ x. absurd (unlent clear refl x.1); only = λ x. absurd (number_fine (pos 0) 1 x) };
     kept = λ k x. absurd (number_fine (pos 0) k x);
@@ -193,21 +192,22 @@ module _ {s s' : List ℕ} (size : length s ≡ area_len) (size' : length s' ≡
       }
 
 -- a reading of window k
-module _ {s : List ℕ} (size : length s ≡ area_len) (format : format_mark (parts_of s) ≡ format_number) (k : ℕ) (h : k < window_count (parts_of s)) where
+module _ {s : List ℕ} (m : Marked s) (k : ℕ) (h : k < window_count (parts_of s)) where
   there : (t : Trip) → Stands s t → k < length t.windows
   there t st = omega (arith, st.holds.windows)
 
-  pub read_value : {z : ℤ} → Reads k (slots_in (parts_of s)) (Value z) → Step (read k) s (number z) s
-  unfolding told window_at
-  read_value {z} r =
-      done_step (read k) read_other s size (read_whole k) format (number z) (number_fine z)
-      (λ t st. (t, read_left size k h t st ∙ ap (told t) (sym (r.on t.windows t.samples st.holds.slots (there t st))), st))
+  told_left : (o : Option ℤ) → Reads k (slots_in (parts_of s)) o → (t : Trip) → Stands s t → outcome t (read k) ≡ told t o
+  unfolding window_at
+  told_left o r t st = read_left m k h t st ∙ ap (told t) (sym (r.on t.windows t.samples st.holds.slots (there t st)))
 
-  pub read_unqualified : Reads k (slots_in (parts_of s)) NoneQualifies → Step (read k) s (refused 10) s
-  unfolding told window_at
-  read_unqualified r =
-      refused_step (read k) read_other s size (read_whole k) format 10 refl
-      (λ t st. read_left size k h t st ∙ ap (told t) (sym (r.on t.windows t.samples st.holds.slots (there t st))))
+  pub read_done : (o : Option ℤ) → Reads k (slots_in (parts_of s)) o → Step (read k) s (answer_of (ok_or o NoneQualifies)) s
+  unfolding told
+  read_done (Some z) r =
+      done_step (read k) read_other s m.size (unlent (read k) (read_unlending k).unlent) m.format (number z) (number_fine z)
+      (λ t st. (t, told_left (Some z) r t st, st))
+  read_done None r =
+      refused_step (read k) read_other s m.size (unlent (read k) (read_unlending k).unlent) m.format 10 refl
+      (λ t st. told_left None r t st)
 
 -- the verdict on the samples
 judged_fine : (v : Verdict) (k : ℕ) → judged v ≡ refused k → ⊥
@@ -218,7 +218,7 @@ pub verdict_held : {s : List ℕ} {v : Verdict} {n : ℕ} {u : Tally} → n ≡ 
     → (t : Trip) → Stands s t → v ≡ verdict_of t.samples
 verdict_held {s} en eu f t st = let h = st.holds in f t h (eu ∙ tally_held (parts_of s) t h) (en ∙ h.samples)
 
-pub verdict_done : {s : List ℕ} {v : Verdict} → length s ≡ area_len → format_mark (parts_of s) ≡ format_number → ((t : Trip) → Stands s t → v ≡ verdict_of t.samples) → Step verdict s (judged v) s
+pub verdict_done : {s : List ℕ} {v : Verdict} → Marked s → ((t : Trip) → Stands s t → v ≡ verdict_of t.samples) → Step verdict s (judged v) s
 unfolding outcome
-verdict_done {s} {v} size format f =
-    done_step verdict verdict_other s size verdict_whole format (judged v) (judged_fine v) (λ t st. (t, rw (f t st) refl, st))
+verdict_done {s} {v} m f =
+    done_step verdict verdict_other s m.size (unlent verdict verdict_unlending.unlent) m.format (judged v) (judged_fine v) (λ t st. (t, rw (f t st) refl, st))

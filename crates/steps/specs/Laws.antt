@@ -1,7 +1,7 @@
 -- How a call's return shows its `Step`: a wrong length, a refusal, an answer. Assumes nothing.
 use Rattle.std.specs.Prelude.{Bool, true, false, not, ◌&&◌, List, refl, ℕ, ◌<◌, eqb, ltb, length}
 use Rattle.std.proofs.Common.{true≢false, sym, ◌∙◌, arith, ltb-true, eq-eqb}
-use Rattle.std.proofs.Math.Option.{none, some}
+use Rattle.std.specs.Prelude.{None, Some}
 use Rattle.std.proofs.Math.Path.{◌≡◌, ap}
 use Rattle.model.specs.Numbers.{bit}
 use Rattle.model.specs.Records.{record_length}
@@ -12,10 +12,10 @@ use Rattle.area.specs.Stands.{damaged, Stands}
 use Rattle.steps.specs.Step.{Exactly, WrongRecord, Step}
 
 -- no record of another length: the call lends none, or one of the right length
-pub unlent : (c : Call) → record_of c ≡ none → WrongRecord c → ⊥
+pub unlent : (c : Call) → record_of c ≡ None → WrongRecord c → ⊥
 unlent c e w = let l = w.lent in let z : ◌≡◌ {A = ℕ} 0 1 = cc in omega arith
 
-pub whole_lent : (c : Call) (r : List ℕ) → record_of c ≡ some r → length r ≡ record_length → WrongRecord c → ⊥
+pub whole_lent : (c : Call) (r : List ℕ) → record_of c ≡ Some r → length r ≡ record_length → WrongRecord c → ⊥
 whole_lent c r e l w = let f = w.lent in let same : r ≡ w.bytes = cc in w.other (rw same at l)
 
 -- a refusal's number

@@ -1,18 +1,22 @@
 -- Each refusal of each call, in the order of document 01, as a law on the area's parts: what the tests before it found, and the test that refuses.
 -- Assumes nothing.
-use Rattle.std.specs.Prelude.{true, false, cond, not, List, ◌≡◌, ℕ, ◌≤◌, ◌<◌, pos, length}
+use Rattle.std.specs.Prelude.{true, false, cond, not, List, ◌≡◌, ℕ, ℤ, ◌≤◌, ◌<◌, pos, length, ⊤, Some, None, Result, Ok, Err}
 use Rattle.std.proofs.Math.Path.{refl, sym}
 use Rattle.std.proofs.Common.{◌∙◌, arith}
 use borrow.Author.Tests.{ne_eqb, eq-eqb, le-leb, lt-leb, lt-ltb, le-ltb}
+use Rattle.model.specs.declared.Refusal.{Refusal}
+use Rattle.model.specs.declared.Refusal.TheVariants.{RecordLength, TripClosed, AreaDamaged}
+use Rattle.model.specs.Answers.{refusal_number}
 use Rattle.model.specs.Numbers.{le_at}
 use Rattle.model.specs.Records.{record_length, max_samples, max_windows, sample_of, in_range, window_of, layout_kept}
 use Rattle.model.specs.Windows.{reading}
 use Rattle.model.specs.Refusals.{unless, sample_refusals, declare_refusals, close_refusals, read_refusals}
-use Rattle.model.specs.Trip.{Trip, clear, declare, sample, close, closed, read, verdict, record_of, number, refused, refuse, accept, outcome, move_count, with_sample, with_window, window_at, told}
+use Rattle.model.specs.Trip.{Trip, Call, clear, declare, sample, close, closed, read, verdict, record_of, number, refused, refuse, accept, outcome, move_count, with_sample, with_window, window_at, told}
 use Rattle.area.specs.Layout.{area_len, parts_of, sample_count, closed_mark, window_count, format_mark, format_number}
-use Rattle.area.specs.Stands.{damaged, Stands}
+use Rattle.area.specs.Stands.{Stands}
+use Rattle.taking.specs.Effects.{number_fine}
 use Rattle.steps.specs.Step.{WrongRecord, Step}
-use Rattle.steps.specs.Laws.{unlent, whole_lent, later, short_step, damaged_step, unmarked_step, refused_step, marked, unmarked}
+use Rattle.steps.specs.Laws.{unlent, whole_lent, later, short_step, damaged_step, unmarked_step, refused_step, done_step, marked, unmarked}
 
 -- the calls that are not clear
 pub declare_other : {r : List ℕ} → declare r ≡ clear → ⊥
@@ -30,176 +34,202 @@ read_other e = let z : ◌≡◌ {A = ℕ} 0 1 = cc in omega arith
 pub verdict_other : verdict ≡ clear → ⊥
 verdict_other e = let z : ◌≡◌ {A = ℕ} 0 1 = cc in omega arith
 
--- the calls that lend no record of another length
-pub sample_whole : {r : List ℕ} → length r ≡ record_length → WrongRecord (sample r) → ⊥
-unfolding record_of
-sample_whole {r} e = whole_lent (sample r) r refl e
+-- A call that lends a record: the refusals that come first, and what is left to test.
 
-pub declare_whole : {r : List ℕ} → length r ≡ record_length → WrongRecord (declare r) → ⊥
-unfolding record_of
-declare_whole {r} e = whole_lent (declare r) r refl e
+-- the call lends the record r, and is refused for its length, then on a closed trip
+pub record Lending (c : Call) (r : List ℕ) : Type 0 where
+  pub other : c ≡ clear → ⊥
+  pub lent : record_of c ≡ Some r
+  pub short : (t : Trip) → (length r ≡ record_length → ⊥) → outcome t c ≡ refuse 1
+  pub shut : (t : Trip) → length r ≡ record_length → t.closed ≡ true → outcome t c ≡ refuse 2
 
-pub close_whole : WrongRecord close → ⊥
-unfolding record_of
-close_whole = unlent close refl
+pub sample_lending : (r : List ℕ) → Lending (sample r) r
+unfolding record_of outcome unless sample_refusals
+sample_lending r = record {
+  other = sample_other;
+  lent = refl;
+  short = λ t n. simp (ne_eqb (length r) record_length n);
+  shut = λ t l e. simp (eq-eqb (length r) record_length l, e);
+}
 
-pub read_whole : (k : ℕ) → WrongRecord (read k) → ⊥
-unfolding record_of
-read_whole k = unlent (read k) refl
+pub declare_lending : (r : List ℕ) → Lending (declare r) r
+unfolding record_of outcome unless declare_refusals
+declare_lending r = record {
+  other = declare_other;
+  lent = refl;
+  short = λ t n. simp (ne_eqb (length r) record_length n);
+  shut = λ t l e. simp (eq-eqb (length r) record_length l, e);
+}
 
-pub verdict_whole : WrongRecord verdict → ⊥
-unfolding record_of
-verdict_whole = unlent verdict refl
-
--- what a call with a record is lent, once neither 11, 1 nor the lack of the format mark refuses it
-pub record Lent (s r : List ℕ) : Type 0 where
+-- the area may take the record: neither 11, 1, the lack of the format mark nor 2 refuses it
+pub record Admits (s r : List ℕ) : Type 0 where
   pub size : length s ≡ area_len
   pub whole : length r ≡ record_length
   pub format : format_mark (parts_of s) ≡ format_number
+  pub free : closed_mark (parts_of s) ≡ 0
 
-module _ (s r : List ℕ) (lent : Lent s r) (free : closed_mark (parts_of s) ≡ 0) where
-  -- what is left to test of a sample whose turn it is, on a trip that the area stands for
-  pub sample_left : sample_count (parts_of s) < max_samples → le_at 2 r 0 ≡ sample_count (parts_of s) → (t : Trip) → Stands s t
-      → outcome t (sample r) ≡ cond (not (in_range (sample_of r))) (refuse 4) (accept (number (pos (move_count (with_sample t (sample_of r))))) (with_sample t (sample_of r)))
-  unfolding outcome unless sample_refusals sample_of
-  sample_left room turn t st = simp (
-    eq-eqb (length r) record_length lent.whole,
-    unmarked t.closed (sym st.holds.mark ∙ free),
-    lt-leb max_samples (length t.samples) (omega (arith, st.holds.samples)),
-    eq-eqb (le_at 2 r 0) (length t.samples) (turn ∙ st.holds.samples),
-  )
+-- what is tested first, of any call that lends the record r: the area may take it, or the call is refused
+abbrev pub Admission : (s r : List ℕ) → Result ⊤ Refusal → Type 0
+Admission s r (Ok u) = Admits s r
+Admission s r (Err k) = (c : Call) → Lending c r → Step c s (refused (refusal_number k)) s
 
-  -- and of a window record, where there is room for it
-  pub declare_left : sample_count (parts_of s) ≡ 0 → window_count (parts_of s) < max_windows → (t : Trip) → Stands s t
-      → outcome t (declare r) ≡ cond (not (layout_kept r)) (refuse 6) (accept (number (pos (length t.windows))) (with_window t (window_of r)))
-  unfolding outcome unless declare_refusals
-  declare_left early room t st = simp (
-    eq-eqb (length r) record_length lent.whole,
-    unmarked t.closed (sym st.holds.mark ∙ free),
-    le-ltb 0 (length t.samples) (omega (arith, st.holds.samples)),
-    lt-leb max_windows (length t.windows) (omega (arith, st.holds.windows)),
-  )
+-- the call lends no record of another length
+lent_whole : {r : List ℕ} → length r ≡ record_length → (c : Call) → Lending c r → WrongRecord c → ⊥
+lent_whole {r} whole c l = whole_lent c r l.lent whole
 
 module _ {s r : List ℕ} (size : length s ≡ area_len) where
-  -- a record of another length
-  pub sample_short : (length r ≡ record_length → ⊥) → Step (sample r) s (refused 1) s
-  unfolding outcome unless sample_refusals record_of
-  sample_short n = short_step (sample r) sample_other s size (record { bytes = r; lent = refl; other = n }) (λ t st. simp (ne_eqb (length r) record_length n))
-
-  pub declare_short : (length r ≡ record_length → ⊥) → Step (declare r) s (refused 1) s
-  unfolding outcome unless declare_refusals record_of
-  declare_short n = short_step (declare r) declare_other s size (record { bytes = r; lent = refl; other = n }) (λ t st. simp (ne_eqb (length r) record_length n))
+  pub lent_short : (length r ≡ record_length → ⊥) → Admission s r (Err RecordLength)
+  lent_short n c l = short_step c l.other s size (record { bytes = r; lent = l.lent; other = n }) (λ t st. l.short t n)
 
   module _ (whole : length r ≡ record_length) where
-    -- no format mark
-    pub sample_unmarked : (format_mark (parts_of s) ≡ format_number → ⊥) → Step (sample r) s (refused damaged) s
-    sample_unmarked u = unmarked_step (sample r) sample_other s size (sample_whole whole) u
+    pub lent_unmarked : (format_mark (parts_of s) ≡ format_number → ⊥) → Admission s r (Err AreaDamaged)
+    lent_unmarked u c l = unmarked_step c l.other s size (lent_whole whole c l) u
 
-    pub declare_unmarked : (format_mark (parts_of s) ≡ format_number → ⊥) → Step (declare r) s (refused damaged) s
-    declare_unmarked u = unmarked_step (declare r) declare_other s size (declare_whole whole) u
+    -- the area is found to stand for no trip
+    pub lent_damaged : ((t : Trip) → Stands s t → ⊥) → Admission s r (Err AreaDamaged)
+    lent_damaged g c l = damaged_step c l.other s size (lent_whole whole c l) g
 
-    pub sample_damaged : ((t : Trip) → Stands s t → ⊥) → Step (sample r) s (refused damaged) s
-    sample_damaged g = damaged_step (sample r) sample_other s size (sample_whole whole) g
+    pub lent_closed : format_mark (parts_of s) ≡ format_number → (closed_mark (parts_of s) ≡ 0 → ⊥) → Admission s r (Err TripClosed)
+    lent_closed f m c l =
+        refused_step c l.other s size (lent_whole whole c l) f 2 refl (λ t st. l.shut t whole (marked t.closed (λ z. m (st.holds.mark ∙ z))))
 
-module _ {s r : List ℕ} (lent : Lent s r) where
-  -- a refusal of a sample, and of a declare
+module _ {s r : List ℕ} (a : Admits s r) where
+  -- the call lends no record of another length, and the trip that the area stands for is open
+  sample_whole : WrongRecord (sample r) → ⊥
+  sample_whole = lent_whole a.whole (sample r) (sample_lending r)
+
+  declare_whole : WrongRecord (declare r) → ⊥
+  declare_whole = lent_whole a.whole (declare r) (declare_lending r)
+
+  unclosed : (t : Trip) → Stands s t → t.closed ≡ false
+  unclosed t st = unmarked t.closed (sym st.holds.mark ∙ a.free)
+
+  -- a refusal, an answer, and the refusal of a damaged area
   sample_refused : (k : ℕ) → later k ≡ true → ((t : Trip) → Stands s t → outcome t (sample r) ≡ refuse k) → Step (sample r) s (refused k) s
-  sample_refused k l g = refused_step (sample r) sample_other s lent.size (sample_whole lent.whole) lent.format k l g
+  sample_refused k l g = refused_step (sample r) sample_other s a.size sample_whole a.format k l g
 
   declare_refused : (k : ℕ) → later k ≡ true → ((t : Trip) → Stands s t → outcome t (declare r) ≡ refuse k) → Step (declare r) s (refused k) s
-  declare_refused k l g = refused_step (declare r) declare_other s lent.size (declare_whole lent.whole) lent.format k l g
+  declare_refused k l g = refused_step (declare r) declare_other s a.size declare_whole a.format k l g
 
-  pub sample_closed : (closed_mark (parts_of s) ≡ 0 → ⊥) → Step (sample r) s (refused 2) s
+  pub sample_answered : {s' : List ℕ} (z : ℤ) → ((t : Trip) → Stands s t → (t' : Trip) × (outcome t (sample r) ≡ accept (number z) t') × Stands s' t') → Step (sample r) s (number z) s'
+  sample_answered z g = done_step (sample r) sample_other s a.size sample_whole a.format (number z) (number_fine z) g
+
+  pub declare_answered : {s' : List ℕ} (z : ℤ) → ((t : Trip) → Stands s t → (t' : Trip) × (outcome t (declare r) ≡ accept (number z) t') × Stands s' t') → Step (declare r) s (number z) s'
+  declare_answered z g = done_step (declare r) declare_other s a.size declare_whole a.format (number z) (number_fine z) g
+
+  pub sample_full : max_samples ≤ sample_count (parts_of s) → Step (sample r) s (refused 5) s
   unfolding outcome unless sample_refusals
-  sample_closed m =
-      sample_refused 2 refl
-      (λ t st. simp (eq-eqb (length r) record_length lent.whole, marked t.closed (λ z. m (st.holds.mark ∙ z))))
+  sample_full f =
+      sample_refused 5 refl
+      (λ t st. simp (eq-eqb (length r) record_length a.whole, unclosed t st, le-leb max_samples (length t.samples) (omega (arith, st.holds.samples))))
 
-  pub declare_closed : (closed_mark (parts_of s) ≡ 0 → ⊥) → Step (declare r) s (refused 2) s
-  unfolding outcome unless declare_refusals
-  declare_closed m =
-      declare_refused 2 refl
-      (λ t st. simp (eq-eqb (length r) record_length lent.whole, marked t.closed (λ z. m (st.holds.mark ∙ z))))
-
-  module _ (free : closed_mark (parts_of s) ≡ 0) where
-    pub sample_full : max_samples ≤ sample_count (parts_of s) → Step (sample r) s (refused 5) s
-    unfolding outcome unless sample_refusals
-    sample_full f =
-        sample_refused 5 refl
+  module _ (room : sample_count (parts_of s) < max_samples) where
+    pub sample_turn : (le_at 2 r 0 ≡ sample_count (parts_of s) → ⊥) → Step (sample r) s (refused 3) s
+    unfolding outcome unless sample_refusals sample_of
+    sample_turn n =
+        sample_refused 3 refl
         (λ t st. simp (
-          eq-eqb (length r) record_length lent.whole,
-          unmarked t.closed (sym st.holds.mark ∙ free),
-          le-leb max_samples (length t.samples) (omega (arith, st.holds.samples)),
+          eq-eqb (length r) record_length a.whole,
+          unclosed t st,
+          lt-leb max_samples (length t.samples) (omega (arith, st.holds.samples)),
+          ne_eqb (le_at 2 r 0) (length t.samples) (λ e. n (e ∙ sym st.holds.samples)),
         ))
 
-    module _ (room : sample_count (parts_of s) < max_samples) where
-      pub sample_turn : (le_at 2 r 0 ≡ sample_count (parts_of s) → ⊥) → Step (sample r) s (refused 3) s
+    module _ (turn : le_at 2 r 0 ≡ sample_count (parts_of s)) where
+      -- what is left to test of a sample whose turn it is, on a trip that the area stands for
+      pub sample_left : (t : Trip) → Stands s t
+          → outcome t (sample r) ≡ cond (not (in_range (sample_of r))) (refuse 4) (accept (number (pos (move_count (with_sample t (sample_of r))))) (with_sample t (sample_of r)))
       unfolding outcome unless sample_refusals sample_of
-      sample_turn n =
-          sample_refused 3 refl
-          (λ t st. simp (
-            eq-eqb (length r) record_length lent.whole,
-            unmarked t.closed (sym st.holds.mark ∙ free),
-            lt-leb max_samples (length t.samples) (omega (arith, st.holds.samples)),
-            ne_eqb (le_at 2 r 0) (length t.samples) (λ e. n (e ∙ sym st.holds.samples)),
-          ))
+      sample_left t st = simp (
+        eq-eqb (length r) record_length a.whole,
+        unclosed t st,
+        lt-leb max_samples (length t.samples) (omega (arith, st.holds.samples)),
+        eq-eqb (le_at 2 r 0) (length t.samples) (turn ∙ st.holds.samples),
+      )
 
-      pub sample_range : le_at 2 r 0 ≡ sample_count (parts_of s) → in_range (sample_of r) ≡ false → Step (sample r) s (refused 4) s
-      sample_range turn g = sample_refused 4 refl (λ t st. rw (sample_left s r lent free room turn t st, g))
+      pub sample_range : in_range (sample_of r) ≡ false → Step (sample r) s (refused 4) s
+      sample_range g = sample_refused 4 refl (λ t st. rw (sample_left t st, g))
 
-    pub declare_late : 0 < sample_count (parts_of s) → Step (declare r) s (refused 7) s
+  pub declare_late : 0 < sample_count (parts_of s) → Step (declare r) s (refused 7) s
+  unfolding outcome unless declare_refusals
+  declare_late f =
+      declare_refused 7 refl
+      (λ t st. simp (eq-eqb (length r) record_length a.whole, unclosed t st, lt-ltb 0 (length t.samples) (omega (arith, st.holds.samples))))
+
+  module _ (early : sample_count (parts_of s) ≡ 0) where
+    pub declare_full : max_windows ≤ window_count (parts_of s) → Step (declare r) s (refused 8) s
     unfolding outcome unless declare_refusals
-    declare_late f =
-        declare_refused 7 refl
+    declare_full f =
+        declare_refused 8 refl
         (λ t st. simp (
-          eq-eqb (length r) record_length lent.whole,
-          unmarked t.closed (sym st.holds.mark ∙ free),
-          lt-ltb 0 (length t.samples) (omega (arith, st.holds.samples)),
+          eq-eqb (length r) record_length a.whole,
+          unclosed t st,
+          le-ltb 0 (length t.samples) (omega (arith, st.holds.samples)),
+          le-leb max_windows (length t.windows) (omega (arith, st.holds.windows)),
         ))
 
-    module _ (early : sample_count (parts_of s) ≡ 0) where
-      pub declare_full : max_windows ≤ window_count (parts_of s) → Step (declare r) s (refused 8) s
+    module _ (room : window_count (parts_of s) < max_windows) where
+      -- what is left to test of a window record, where there is room for it
+      pub declare_left : (t : Trip) → Stands s t
+          → outcome t (declare r) ≡ cond (not (layout_kept r)) (refuse 6) (accept (number (pos (length t.windows))) (with_window t (window_of r)))
       unfolding outcome unless declare_refusals
-      declare_full f =
-          declare_refused 8 refl
-          (λ t st. simp (
-            eq-eqb (length r) record_length lent.whole,
-            unmarked t.closed (sym st.holds.mark ∙ free),
-            le-ltb 0 (length t.samples) (omega (arith, st.holds.samples)),
-            le-leb max_windows (length t.windows) (omega (arith, st.holds.windows)),
-          ))
+      declare_left t st = simp (
+        eq-eqb (length r) record_length a.whole,
+        unclosed t st,
+        le-ltb 0 (length t.samples) (omega (arith, st.holds.samples)),
+        lt-leb max_windows (length t.windows) (omega (arith, st.holds.windows)),
+      )
 
-      pub declare_layout : window_count (parts_of s) < max_windows → layout_kept r ≡ false → Step (declare r) s (refused 6) s
-      declare_layout room g = declare_refused 6 refl (λ t st. rw (declare_left s r lent free early room t st, g))
+      pub declare_layout : layout_kept r ≡ false → Step (declare r) s (refused 6) s
+      declare_layout g = declare_refused 6 refl (λ t st. rw (declare_left t st, g))
 
--- The calls that lend no record.
+-- A call that lends no record.
 
-module _ {s : List ℕ} (size : length s ≡ area_len) where
-  pub close_unmarked : (format_mark (parts_of s) ≡ format_number → ⊥) → Step close s (refused damaged) s
-  close_unmarked u = unmarked_step close close_other s size close_whole u
+pub record Unlending (c : Call) : Type 0 where
+  pub other : c ≡ clear → ⊥
+  pub unlent : record_of c ≡ None
 
-  pub read_unmarked : (k : ℕ) → (format_mark (parts_of s) ≡ format_number → ⊥) → Step (read k) s (refused damaged) s
-  read_unmarked k u = unmarked_step (read k) read_other s size (read_whole k) u
+pub close_unlending : Unlending close
+unfolding record_of
+close_unlending = record { other = close_other; unlent = refl }
 
-  pub verdict_unmarked : (format_mark (parts_of s) ≡ format_number → ⊥) → Step verdict s (refused damaged) s
-  verdict_unmarked u = unmarked_step verdict verdict_other s size verdict_whole u
+pub read_unlending : (k : ℕ) → Unlending (read k)
+unfolding record_of
+read_unlending k = record { other = read_other; unlent = refl }
 
-  pub read_damaged : (k : ℕ) → ((t : Trip) → Stands s t → ⊥) → Step (read k) s (refused damaged) s
-  read_damaged k g = damaged_step (read k) read_other s size (read_whole k) g
+pub verdict_unlending : Unlending verdict
+unfolding record_of
+verdict_unlending = record { other = verdict_other; unlent = refl }
 
-  pub verdict_damaged : ((t : Trip) → Stands s t → ⊥) → Step verdict s (refused damaged) s
-  verdict_damaged g = damaged_step verdict verdict_other s size verdict_whole g
+-- the area has its length and the format mark
+pub record Marked (s : List ℕ) : Type 0 where
+  pub size : length s ≡ area_len
+  pub format : format_mark (parts_of s) ≡ format_number
 
-  module _ (format : format_mark (parts_of s) ≡ format_number) where
-    pub close_closed : (closed_mark (parts_of s) ≡ 0 → ⊥) → Step close s (refused 2) s
-    unfolding outcome unless close_refusals
-    close_closed m = refused_step close close_other s size close_whole format 2 refl (λ t st. simp (marked t.closed (λ z. m (st.holds.mark ∙ z))))
+-- what is tested first, of any call but clear that lends no record: that, or the call is refused
+abbrev pub Recognition : List ℕ → Result ⊤ Refusal → Type 0
+Recognition s (Ok u) = Marked s
+Recognition s (Err k) = (c : Call) → Unlending c → Step c s (refused (refusal_number k)) s
 
-    pub read_none : (k : ℕ) → window_count (parts_of s) ≤ k → Step (read k) s (refused 9) s
-    unfolding outcome unless read_refusals
-    read_none k h =
-        refused_step (read k) read_other s size (read_whole k) format 9 refl
-        (λ t st. simp (le-leb (length t.windows) k (omega (arith, st.holds.windows))))
+pub unlent_unmarked : {s : List ℕ} → length s ≡ area_len → (format_mark (parts_of s) ≡ format_number → ⊥) → Recognition s (Err AreaDamaged)
+unlent_unmarked {s} size u c l = unmarked_step c l.other s size (unlent c l.unlent) u
+
+-- the area is found to stand for no trip
+pub unlent_damaged : {s : List ℕ} → length s ≡ area_len → ((t : Trip) → Stands s t → ⊥) → Recognition s (Err AreaDamaged)
+unlent_damaged {s} size g c l = damaged_step c l.other s size (unlent c l.unlent) g
+
+module _ {s : List ℕ} (m : Marked s) where
+  pub close_closed : (closed_mark (parts_of s) ≡ 0 → ⊥) → Step close s (refused 2) s
+  unfolding outcome unless close_refusals
+  close_closed n =
+      refused_step close close_other s m.size (unlent close close_unlending.unlent) m.format 2 refl
+      (λ t st. simp (marked t.closed (λ z. n (st.holds.mark ∙ z))))
+
+  pub read_none : (k : ℕ) → window_count (parts_of s) ≤ k → Step (read k) s (refused 9) s
+  unfolding outcome unless read_refusals
+  read_none k h =
+      refused_step (read k) read_other s m.size (unlent (read k) (read_unlending k).unlent) m.format 9 refl
+      (λ t st. simp (le-leb (length t.windows) k (omega (arith, st.holds.windows))))
 
   pub close_left : closed_mark (parts_of s) ≡ 0 → (t : Trip) → Stands s t → outcome t close ≡ accept (number (pos 0)) (closed t)
   unfolding outcome unless close_refusals

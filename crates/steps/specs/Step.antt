@@ -1,6 +1,6 @@
 -- What each call promises, and lists of calls.
 use Rattle.std.specs.Prelude.{List, [], ◌∷◌, ◌≡◌, ℕ, ◌<◌, pos, length}
-use Rattle.std.proofs.Math.Option.{some}
+use Rattle.std.specs.Prelude.{Some}
 use Rattle.model.specs.Records.{record_length}
 use Rattle.model.specs.Trip.{Trip, empty, Call, clear, record_of, Answer, number, refused, answer, next}
 use Rattle.area.specs.Layout.{area_len, parts_of, format_mark, format_number}
@@ -14,7 +14,7 @@ pub record Exactly (P Q : Type 0) : Type 0 where
 -- the call lends a record, of another length than a record's
 pub record WrongRecord (c : Call) : Type 0 where
   pub bytes : List ℕ
-  pub lent : record_of c ≡ some bytes
+  pub lent : record_of c ≡ Some bytes
   pub other : length bytes ≡ record_length → ⊥
 
 -- what one call promises: area s before, answer a, area s' after

@@ -9,8 +9,7 @@ ghost use Rattle.area_windows.specs.Effects.{Stepping};
 ghost use Rattle.area.specs.Layout.{parts_of};
 ghost use Rattle.taking.specs.Effects.{TakenSound, Taking, Accepts};
 
-use area::DAMAGED;
-use model::{Answer, MAX_WINDOWS, Sample};
+use model::{MAX_WINDOWS, Refusal, Sample};
 
 // The sample of second n and its record go into every part of the area.
 fn store(area: &mut [u8], record: &[u8], s: Sample, n: u32, k: u32)
@@ -25,14 +24,14 @@ fn store(area: &mut [u8], record: &[u8], s: Sample, n: u32, k: u32)
 }
 
 // Takes a sample whose turn it is and answers the moves made so far.
-pub fn take(area: &mut [u8], record: &[u8], s: Sample, n: u32) -> Answer
+pub fn take(area: &mut [u8], record: &[u8], s: Sample, n: u32) -> Result<i64, Refusal>
     requires { Taking area.old «record».now s n }
     ensures { Accepts «record».now n area.old (answer_of result) area.new }
 {
     let k = area::windows(area);
     if MAX_WINDOWS < k {
-        return Answer::Refused(DAMAGED);
+        return Err(Refusal::AreaDamaged);
     }
     store(area, record, s, n, k);
-    Answer::Number(area_windows::moves(area))
+    Ok(area_windows::moves(area))
 }

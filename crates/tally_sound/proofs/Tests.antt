@@ -12,7 +12,7 @@ use Rattle.model.specs.Numbers.{all, withinℤ}
 use Rattle.model.specs.Records.{max_samples, max_channel, units}
 use Rattle.model.specs.Tallies.{samples_of, sound}
 use Rattle.laws.specs.Tests.{Each, all_each}
-use Rattle.limits.specs.Table.{row, figure, upper}
+use Rattle.limits.specs.Table.{row_of, upper}
 use Rattle.tally.specs.Sound.{sound_facts}
 use Rattle.tally_sound.specs.Few.{few, Few, sound_few}
 
@@ -28,7 +28,7 @@ pub sound_tests : (t : Tally) (n : ℕ) (u r m : Bool) (z : ℤ)
     && (leb t.stops n && (leb t.over100 n && (leb t.over145 n && (leb t.over160 n
     && (leb t.temperature n && (leb t.altitude n && ((le_z (pos 0) t.nox && le_z t.nox z) && (le_z (pos 0) t.extended && le_z t.extended t.nox))))))))))))
     ≡ sound t
-unfolding sound all withinℤ figure row
+unfolding sound all withinℤ row_of
 sound_tests t n u r m z e p q s f = rw (f, p, q, s, e, and-true)
 
 -- the first tests as facts

@@ -23,16 +23,14 @@ const NOX: usize = 8 * 12;
 
 const EXTENDED: usize = NOX + 8;
 
-// The numbers at `at`, each of its low four bytes, with those of ns added.
+// The numbers at `at`, each of its low four bytes, with those of ns added. Not one with tally_bytes::put_words, which reads nothing.
 fn raise(b: &mut [u8], at: usize, ns: &[u64])
     requires { (at + 8 * length ns.now ≤ length b.old) × All (λ n. n < 2 ^ 62) ns.now }
     ensures { b.new ≡ put b.old at (words (raised b.old at ns.now)) }
 {
-    let mut i = 0;
-    while i < ns.len() {
-        let n = field::get_u32(b, at + 8 * i) as u64;
-        field::put_u64(b, at + 8 * i, n + ns[i]);
-        i += 1;
+    for (i, n) in ns.iter().enumerate() {
+        let low = field::get::<u32>(b, at + 8 * i) as u64;
+        field::put(b, at + 8 * i, low + *n);
     }
 }
 
@@ -41,10 +39,10 @@ fn raise_sum(b: &mut [u8], at: usize, z: i64)
     requires { (at + 8 ≤ length b.old) × (nat_abs z < 2 ^ 62) }
     ensures { b.new ≡ put_le 8 b.old at (unsigned 8 (pos (low_sum b.old at) +ℤ z)) }
 {
-    let low = field::get_u32(b, at) as u64;
-    let above = field::get_u16(b, at + 4) as u64;
+    let low = field::get::<u32>(b, at) as u64;
+    let above = field::get::<u16>(b, at + 4) as u64;
     let sum = (low + 0x1_0000_0000 * above) as i64;
-    signed_field::put_i64(b, at, sum + z);
+    field::put(b, at, sum + z);
 }
 
 // The k-th class tally, of low numbers.
@@ -53,8 +51,8 @@ fn low_class(b: &[u8], k: usize) -> ClassTally
     ensures { (result ≡ low_class b.now k) × SmallClass result }
 {
     ClassTally {
-        samples: field::get_u32(b, 8 * k) as u64,
-        distance: Distance(field::get_u32(b, DISTANCES + 8 * k) as u64),
+        samples: field::get::<u32>(b, 8 * k) as u64,
+        distance: Distance(field::get::<u32>(b, DISTANCES + 8 * k) as u64),
     }
 }
 

@@ -1,65 +1,41 @@
--- The laws of appended texts, one for each way out of a function. Assumes nothing.
+-- The laws of appended numbers: what std writes of a number is what the definition says, and the digits of a hexadecimal number, one by one.
+-- Assumes nothing.
 use mathlib.Core.Path.{◌≡◌, refl, sym}
-use mathlib.Core.List.{List, [], ◌∷◌, append-nil}
-use Prim.Native.Nat.{ℕ, zero, suc, ◌+◌, ◌-◌, ◌/◌, ◌%◌, ◌≤◌, ◌<◌}
-use native.Mathlib.Numerals.{add-one}
+use mathlib.Core.List.{List, [], ◌∷◌, ◌++◌, append-nil}
+use Prim.Native.Nat.{ℕ, zero, suc, ◌-◌, ◌/◌, ◌%◌, ◌^◌, ◌≤◌, ◌<◌}
 use native.Mathlib.Omega.{arith}
 use borrow.Author.Tests.{lt-ltb, le-ltb}
-use lib.Seq.{take_all, take-suc, take-suc-set}
-use lib.ListN.{length, take, get_or, set}
-use Rattle.model.specs.Report.{digits, hex_digit, hexadecimal}
-use Rattle.text.specs.Append.{Appended, then, restated}
+use lib.ListN.{length}
+use Rattle.std.proofs.lemmas.Fmt.{AppendsLastDigit, decimal_from_appends, length-decimal-le}
+use Rattle.std.specs.Fmt as std
+use Rattle.model.specs.Report.{digits, decimal, hex_digit, hexadecimal}
+use Rattle.text.specs.Append.{Appended, pushed, then, restated}
 
--- nothing is appended
-pub none : (a : List ℕ) (at : ℕ) → Appended a at 0 [] at a
-none a at = record { bytes = sym (append-nil (take at a)); within = omega arith }
-
--- one byte is appended
-pub pushed : (a : List ℕ) (at b : ℕ) → at + 1 ≤ length a → Appended a at 1 (b ∷ []) (at + 1) (set a at b)
-pushed a at b h = record { bytes = rw add-one (take-suc-set a at b (omega arith)); within = omega arith }
-
--- one byte more of a text that is copied
-pub copied :
-    {a b c : List ℕ} {at p q i : ℕ} (s : List ℕ)
-    → Appended a at i (take i s) p b → i < length s → Appended b p 1 (get_or s i 0 ∷ []) q c
-    → Appended a at (i + 1) (take (i + 1) s) q c
-copied {i = i} s f h g = restated (then f g) (sym (rw add-one (take-suc s i 0 h))) (omega arith)
-
--- and the whole of it
-pub all_copied :
-    {a b : List ℕ} {at r i : ℕ} (s : List ℕ) → length s ≤ i → i ≤ length s
-    → Appended a at i (take i s) r b → Appended a at (length s) s r b
-all_copied {i = i} s h l f = restated f (take_all i s h) l
-
--- the ways out of `put_digits`: no digit is asked for, one is enough, or the last follows the others
-pub digits_none : (k n : ℕ) (a : List ℕ) (at : ℕ) → k ≡ 0 → Appended a at k (digits k n) at a
+-- `digits` writes the front of a number, and then its last digit
+digits_append : AppendsLastDigit digits
 unfolding digits
-digits_none k n a at e = rw e (none a at)
+digits_append = record {
+  one = λ k n l. rw (lt-ltb n 10 l) refl;
+  more = λ k n l. rw (le-ltb n 10 l) refl;
+}
 
-pub digits_one :
-    (k n : ℕ) {a b : List ℕ} {at r : ℕ} → (k ≡ 0 → ⊥) → n < 10
-    → Appended a at 1 ((48 + n) ∷ []) r b → Appended a at k (digits k n) r b
-unfolding digits
-digits_one zero n h l f = absurd (h refl)
-digits_one (suc k) n h l f = restated f (rw (lt-ltb n 10 l)) (omega arith)
+-- what std writes of a number in decimal
+pub decimal_pushed : {a b : List ℕ} (n : ℕ) → n < 2 ^ 32 → b ≡ a ++ std.decimal n → Appended a 20 (decimal n) b
+unfolding decimal
+decimal_pushed {a} n l e =
+    let short : length (std.decimal n) ≤ 20 = length-decimal-le 20 n (omega arith) (omega arith) (omega arith) in
+    let same : digits 20 n ≡ std.decimal n = decimal_from_appends digits digits_append 20 n (omega arith) short in
+    restated (pushed e) (sym same) short
 
-pub digits_last :
-    (k n : ℕ) {a b c : List ℕ} {at p r : ℕ} → (k ≡ 0 → ⊥) → 10 ≤ n
-    → Appended a at (k - 1) (digits (k - 1) (n / 10)) p b → Appended b p 1 ((48 + n % 10) ∷ []) r c
-    → Appended a at k (digits k n) r c
-unfolding digits
-digits_last zero n h l f g = absurd (h refl)
-digits_last (suc k) n h l f g = let e : suc k - 1 ≡ k = omega arith in restated (then f g) (rw (e, le-ltb n 10 l)) (omega arith)
-
--- the ways out of `put_hex`
-pub hex_none : (k n : ℕ) (a : List ℕ) (at : ℕ) → k ≡ 0 → Appended a at k (hexadecimal k n) at a
+-- the ways out of `push_hex`
+pub hex_none : (k n : ℕ) (a : List ℕ) → k ≡ 0 → Appended a k (hexadecimal k n) a
 unfolding hexadecimal
-hex_none k n a at e = rw e (none a at)
+hex_none k n a e = rw e (record { bytes = sym (append-nil a); within = omega arith })
 
 pub hex_last :
-    (k n : ℕ) {a b c : List ℕ} {at p r d : ℕ} → (k ≡ 0 → ⊥) → d ≡ hex_digit (n % 16)
-    → Appended a at (k - 1) (hexadecimal (k - 1) (n / 16)) p b → Appended b p 1 (d ∷ []) r c
-    → Appended a at k (hexadecimal k n) r c
+    (k n : ℕ) {a b c : List ℕ} → 0 < k
+    → Appended a (k - 1) (hexadecimal (k - 1) (n / 16)) b → c ≡ b ++ (hex_digit (n % 16) ∷ [])
+    → Appended a k (hexadecimal k n) c
 unfolding hexadecimal
-hex_last zero n h d f g = absurd (h refl)
-hex_last (suc k) n h d f g = let e : suc k - 1 ≡ k = omega arith in restated (then f g) (rw (e, d)) (omega arith)
+hex_last zero n h f e = absurd (omega arith)
+hex_last (suc k) n h f e = let same : suc k - 1 ≡ k = omega arith in restated (then f (pushed e)) (rw same) (omega arith)

@@ -1,19 +1,24 @@
--- What it means to append a text to the one that a buffer begins with.
---     Appended             a text behind the first bytes of a buffer
+-- What it means to append a text to another.
+--     Appended             a text behind another, in a room
+--     pushed               a text pushed behind another
 --     then, restated       one text behind another; the same text by another name
 -- Assumes nothing.
-use Rattle.std.specs.Prelude.{◌≡◌, List, ◌++◌, ℕ, ◌+◌, ◌≤◌, take}
-use Rattle.std.proofs.Common.{ap, ◌∙◌, append_assoc, arith}
+use Rattle.std.specs.Prelude.{◌≡◌, List, ◌++◌, ℕ, ◌+◌, ◌≤◌, length}
+use Rattle.std.proofs.Common.{ap, ◌∙◌, append_assoc, length-append, arith}
 
--- behind the first `at` bytes of a buffer now stands `text`, which takes no more than `room` bytes and ends at `end`
-pub record Appended (before : List ℕ) (at room : ℕ) (text : List ℕ) (end : ℕ) (after : List ℕ) : Type 0 where
-  pub bytes : take end after ≡ take at before ++ text
-  pub within : end ≤ at + room
+-- behind what stood before now stands `text`, and both together take no more than `room` bytes more
+pub record Appended (before : List ℕ) (room : ℕ) (text : List ℕ) (after : List ℕ) : Type 0 where
+  pub bytes : after ≡ before ++ text
+  pub within : length after ≤ length before + room
+
+-- a text pushed behind another
+pub pushed : {a b s : List ℕ} → b ≡ a ++ s → Appended a (length s) s b
+pushed {a} {s = s} e = record { bytes = e; within = rw e (omega (arith, length-append a s)) }
 
 -- one text behind another
-pub then : {a b c s t : List ℕ} {at m p n q : ℕ} → Appended a at m s p b → Appended b p n t q c → Appended a at (m + n) (s ++ t) q c
-then {a} {b} {c} {s} {t} {at} f g = record { bytes = g.bytes ∙ ap (λ (l : List ℕ). l ++ t) f.bytes ∙ append_assoc (take at a) s t; within = omega (arith, f.within, g.within) }
+pub then : {a b c s t : List ℕ} {m n : ℕ} → Appended a m s b → Appended b n t c → Appended a (m + n) (s ++ t) c
+then {a} {b} {c} {s} {t} f g = record { bytes = g.bytes ∙ ap (λ (l : List ℕ). l ++ t) f.bytes ∙ append_assoc a s t; within = omega (arith, f.within, g.within) }
 
 -- the same text by another name, in more room
-pub restated : {a b s t : List ℕ} {at m n r : ℕ} → Appended a at m s r b → s ≡ t → m ≤ n → Appended a at n t r b
-restated {a} {at = at} f e h = record { bytes = f.bytes ∙ ap (λ (l : List ℕ). take at a ++ l) e; within = omega (arith, f.within) }
+pub restated : {a b s t : List ℕ} {m n : ℕ} → Appended a m s b → s ≡ t → m ≤ n → Appended a n t b
+restated {a} f e h = record { bytes = f.bytes ∙ ap (λ (l : List ℕ). a ++ l) e; within = omega (arith, f.within) }

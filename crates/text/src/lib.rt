@@ -1,83 +1,47 @@
-// Words and numbers as text, put into a lent buffer.
+// Words and numbers as text, behind one of fixed capacity.
 #![tactic(auto)]
 
 ghost use Rattle.std.specs.Prelude.{◌≡◌, [], ◌∷◌, ◌++◌, ◌+◌, ◌<◌, ◌≤◌, length};
-ghost use Rattle.model.specs.Report.{digits, decimal, hex_digit, hexadecimal};
+ghost use Rattle.arrayvec.specs.ArrayString.{array_string_len};
+ghost use Rattle.model.specs.Report.{decimal, hex_digit, hexadecimal};
 ghost use Rattle.text.specs.Append.{Appended};
 
-// This and each `put_` function write behind the first `at` bytes, and answer where their text ends.
-fn push(out: &mut [u8], at: usize, byte: u8) -> usize
-    requires { at + 1 ≤ length out.old }
-    ensures { Appended out.old at 1 (byte ∷ []) result out.new }
+use arrayvec::ArrayString;
+
+// Not by `write!` and `Display`: std says what they write where they answer Ok, and not that they do, and these functions can't fail.
+// 20 bytes, as the definition has them, are more than any u32 needs.
+pub fn push_decimal<const N: usize>(text: &mut ArrayString<N>, n: u32)
+    requires { array_string_len text.old + 20 ≤ N }
+    ensures { Appended text.old.bytes 20 (decimal n) text.new.bytes }
 {
-    out[at] = byte;
-    at + 1
+    text.push_str(itoa::Buffer::new().format(n));
 }
 
-pub fn put_text(out: &mut [u8], at: usize, bytes: &[u8]) -> usize
-    requires { at + length bytes.now ≤ length out.old }
-    ensures { Appended out.old at (length bytes.now) bytes.now result out.new }
+// One digit, in lower case.
+fn push_hex_digit<const N: usize>(text: &mut ArrayString<N>, d: u32)
+    requires room { array_string_len text.old + 1 ≤ N }
+    requires digit { d < 16 }
+    ensures { text.new.bytes ≡ text.old.bytes ++ hex_digit d ∷ [] }
 {
-    let mut end = at;
-    let mut i = 0;
-    while i < bytes.len() {
-        end = push(out, end, bytes[i]);
-        i += 1;
-    }
-    end
+    text.push(char::from_digit(d, 16).unwrap());
 }
 
-// A number in decimal, of at most k digits.
-fn put_digits(out: &mut [u8], at: usize, k: usize, n: u32) -> usize
-    requires { at + k ≤ length out.old }
-    ensures { Appended out.old at k (digits k n) result out.new }
+// The k lowest hexadecimal digits of a number, by the two steps of the definition.
+pub fn push_hex<const N: usize>(text: &mut ArrayString<N>, k: usize, n: u32)
+    requires { array_string_len text.old + k ≤ N }
+    ensures { Appended text.old.bytes k (hexadecimal k n) text.new.bytes }
 {
-    if k == 0 {
-        return at;
+    if k > 0 {
+        push_hex(text, k - 1, n / 16);
+        push_hex_digit(text, n % 16);
     }
-    if n < 10 {
-        return push(out, at, b'0' + n as u8);
-    }
-    let p = put_digits(out, at, k - 1, n / 10);
-    push(out, p, b'0' + (n % 10) as u8)
-}
-
-// 20 digits, as the definition has them, are more than any u32 needs.
-fn put_decimal(out: &mut [u8], at: usize, n: u32) -> usize
-    requires { at + 20 ≤ length out.old }
-    ensures { Appended out.old at 20 (decimal n) result out.new }
-{
-    put_digits(out, at, 20, n)
-}
-
-// In lower case: 87 is ten before the letter a.
-fn hex_digit(d: u32) -> u8
-    requires { d < 16 }
-    ensures { result ≡ hex_digit d }
-{
-    if d < 10 {
-        return b'0' + d as u8;
-    }
-    87 + d as u8
-}
-
-// The k lowest hexadecimal digits of a number.
-pub fn put_hex(out: &mut [u8], at: usize, k: usize, n: u32) -> usize
-    requires { at + k ≤ length out.old }
-    ensures { Appended out.old at k (hexadecimal k n) result out.new }
-{
-    if k == 0 {
-        return at;
-    }
-    let p = put_hex(out, at, k - 1, n / 16);
-    push(out, p, hex_digit(n % 16))
 }
 
 // A number in decimal behind its label.
-pub fn put_number(out: &mut [u8], at: usize, label: &[u8], n: u32) -> usize
-    requires { at + (length label.now + 20) ≤ length out.old }
-    ensures { Appended out.old at (length label.now + 20) (label.now ++ decimal n) result out.new }
+pub fn push_number<const N: usize>(text: &mut ArrayString<N>, label: &str, n: u32)
+    requires { array_string_len text.old + (length label.now + 20) ≤ N }
+    ensures { Appended text.old.bytes (length label.now + 20) (label.now ++ decimal n) text.new.bytes }
 {
-    let p = put_text(out, at, label);
-    put_decimal(out, p, n)
+    text.push_str(label);
+    push_decimal(text, n);
 }

@@ -3,7 +3,6 @@
 
 ghost use Rattle.std.specs.Prelude.{◌≡◌, Bool, List, ◌*◌, ◌≤◌, length};
 ghost use Rattle.model.specs.declared.Sample.{Sample};
-ghost use Rattle.model.specs.Answers.{finding_code};
 ghost use Rattle.model.specs.Records.{max_samples};
 ghost use Rattle.model.specs.Tallies.{tally_of};
 ghost use Rattle.model.specs.Verdicts.{mask, finding as finding_of, verdict_of};
@@ -36,30 +35,13 @@ fn broken(t: Tally, speeds: &[u8], n: usize, e: Ends) -> u32
 fn finding(broken: u32, exceeded: bool) -> Finding
     ensures { (bs : List Bool) → length bs ≤ mask_bits → broken ≡ mask bs → result ≡ finding_of 0 bs exceeded }
 {
-    let mut m = broken;
-    let mut k: u32 = 0;
-    while k < 32 {
-        if m % 2 == 1 {
-            return Finding::Rule(k);
-        }
-        m = m / 2;
-        k += 1;
+    if broken != 0 {
+        return Finding::Rule(broken.trailing_zeros());
     }
     if exceeded {
         return Finding::Exceeded;
     }
     Finding::Clean
-}
-
-// A finding as a number: 0 to 31 a rule, 32 exceeded, 33 clean.
-pub fn finding_code(f: Finding) -> u32
-    ensures { result ≡ finding_code f }
-{
-    match f {
-        Finding::Rule(k) => k,
-        Finding::Exceeded => 32,
-        Finding::Clean => 33,
-    }
 }
 
 // The verdict on the samples with this tally, these first n speeds and these altitudes of the first and the last of them.

@@ -7,10 +7,11 @@
 --     Fillable, Refilled       before and after the store of values is changed
 --     turned, turned_unfit, turned_unrollable      one law for each return of `turn`
 -- Assumes nothing.
-use Rattle.std.specs.Prelude.{Bool, ℕ, zero, suc, ◌+◌, ◌-◌, ◌*◌, ◌^◌, ◌≤◌, ◌<◌, leb, ℤ, pos, negsuc, nat_abs, get_or, take, drop}
+use Rattle.std.specs.Bool.{then_some}
+use Rattle.std.specs.Prelude.{Option, None, is_some, option_to_list, Bool, ℕ, zero, suc, ◌+◌, ◌-◌, ◌*◌, ◌^◌, ◌≤◌, ◌<◌, leb, ℤ, pos, negsuc, nat_abs, get_or, take, drop}
 use Rattle.std.proofs.Math.Bool.{true, false}
 use Rattle.std.proofs.lemmas.Bool.{false≢true}
-use mathlib.Core.List.{List, [], ◌∷◌, ◌++◌}
+use mathlib.Core.List.{List, ◌++◌}
 use Rattle.std.proofs.Math.Path.{◌≡◌, refl, sym, ap}
 use Rattle.std.proofs.Common.{ap₂, ◌∙◌, leb-true}
 use Rattle.std.proofs.Math.Decide.{dec_lt}
@@ -26,7 +27,7 @@ use Rattle.cells.specs.Store.{Storable, values_of}
 use Rattle.laws.specs.Tests.{Each, all_each, both}
 use Rattle.record.specs.Ranges.{channel_small, EachInRange}
 use Rattle.slide.specs.Conditions.{qualifies_near}
-use Rattle.slide.specs.Held.{held_unkept, held_length}
+use Rattle.slide.specs.Held.{stepped, held_unkept, held_length}
 use Rattle.slide.proofs.Held.{held_stepped, aged_length}
 use Rattle.slide.proofs.Step.{sum_step}
 use Rattle.laws.specs.Lists.{all_map, one}
@@ -41,8 +42,10 @@ use Rattle.slots.specs.Layout.{number_place, store_place, store_len, list_len, l
 use Rattle.slots.specs.Layout.{store_in, record_in, window_in, first_of, number_of}
 use Rattle.slots.specs.Layout.{ring_samples, ring_sample, value_in, qualifies_in, window_function, window_width, value_window}
 use Rattle.lists.specs.Lists.{list_of, number_length, list_none, list_around, Fit, Fitness}
-use Rattle.list_steps.specs.Steps.{extreme, displaces_in, ListStepped}
-use Rattle.rolling.specs.Change.{Small, Roomy, Rollable, Rolling, count_after, sum_after, Restocked}
+use Rattle.list_steps.specs.declared.Extreme.{Extreme}
+use Rattle.list_steps.specs.declared.Extreme.TheVariants.{Smallest, Largest}
+use Rattle.list_steps.specs.Steps.{extreme_function, extreme_code, displaces_in, ListStepped}
+use Rattle.rolling.specs.Change.{or_zero, Small, Roomy, Rollable, Rolling, count_after, sum_after, Restocked}
 use Rattle.rolling.specs.declared.Change.{Change}
 use Rattle.window.specs.Stand.{SlotStands}
 
@@ -67,20 +70,60 @@ pub record Turned (k n : ℕ) (p q : List ℕ) : Type 0 where
   pub beside : Beside k p q
   pub on : (w : Window) (ss : List Sample) (x : Sample) → Before w ss x k n p → After w ss x k p q
 
+-- the value that slot k's window reads of a second's record in the ring, where that second qualifies by the ring
+abbrev pub qualifying_value : List ℕ → ℕ → ℕ → Option ℤ
+qualifying_value p k s = then_some (qualifies_in p k s) (value_in p k s)
+
 -- what leaves and what enters as second n comes, of whose record the ring has n's already
 pub record Changes (p : List ℕ) (k n : ℕ) (c : Change) : Type 0 where
-  pub full : width_in (slot_of p k) ≤ n → (c.leaves ≡ qualifies_in p k (n - width_in (slot_of p k))) × (c.old ≡ value_in p k (n - width_in (slot_of p k)))
-  pub filling : n < width_in (slot_of p k) → c.leaves ≡ false
-  pub enters : c.enters ≡ qualifies_in p k n
-  pub new : c.new ≡ value_in p k n
+  pub full : width_in (slot_of p k) ≤ n → c.leaves ≡ qualifying_value p k (n - width_in (slot_of p k))
+  pub filling : n < width_in (slot_of p k) → c.leaves ≡ None
+  pub enters : c.enters ≡ qualifying_value p k n
   pub small : Small c
 
 -- the change is the window's
 pub record Slides (w : Window) (ss : List Sample) (x : Sample) (c : Change) : Type 0 where
-  pub leaves : c.leaves ≡ leaves w ss
-  pub old : c.leaves ≡ true → c.old ≡ leaving w ss
-  pub enters : c.enters ≡ enters w ss x
-  pub new : c.new ≡ channel w.channel x
+  pub leaves : c.leaves ≡ then_some (leaves w ss) (leaving w ss)
+  pub enters : c.enters ≡ then_some (enters w ss x) (channel w.channel x)
+
+-- a value that is there where t holds
+module _ (t : Bool) (z : ℤ) where
+  some_is : is_some (then_some t z) ≡ t
+  some_is = by t
+    where
+      by : (t : Bool) → is_some (then_some t z) ≡ t
+      by true = refl
+      by false = refl
+
+  zero_is : or_zero (then_some t z) ≡ addend t z
+  zero_is = by t
+    where
+      by : (t : Bool) → or_zero (then_some t z) ≡ addend t z
+      by true = refl
+      by false = refl
+
+  list_is : option_to_list (then_some t z) ≡ one t z
+  list_is = by t
+    where
+      by : (t : Bool) → option_to_list (then_some t z) ≡ one t z
+      by true = refl
+      by false = refl
+
+  -- no more than the value, which a cell holds
+  storable_is : Storable z → Storable (or_zero (then_some t z))
+  storable_is h = by t
+    where
+      by : (t : Bool) → Storable (or_zero (then_some t z))
+      by true = h
+      by false = omega arith
+
+  stepped_is : (w n : ℕ) (d : ℤ → ℕ → Bool) (l : List ℕ) → stepped w n (is_some (then_some t z)) (d (or_zero (then_some t z))) l ≡ stepped w n t (d z) l
+  unfolding stepped
+  stepped_is w n d l = by t
+    where
+      by : (t : Bool) → stepped w n (is_some (then_some t z)) (d (or_zero (then_some t z))) l ≡ stepped w n t (d z) l
+      by true = refl
+      by false = refl
 
 layout_fields : (r : List ℕ) → layout_kept r ≡ true → fields_kept r ≡ true
 unfolding layout_kept
@@ -125,10 +168,10 @@ pub value_read : (w : Window) (k : ℕ) (p : List ℕ) → window_in (slot_of p 
 value_read w k p e i y h = value_window p k i ∙ ap₂ (λ (v : Window) (z : Sample). channel v.channel z) e h
 
 -- codes 2 and 3
-pub extreme_function : (largest : Bool) → (get_or functions (2 + bit largest) Count ≡ extreme largest) × (keeps_entries (extreme largest) ≡ true)
-unfolding functions keeps_entries
-extreme_function true = (refl, refl)
-extreme_function false = (refl, refl)
+pub extreme_coded : (e : Extreme) → (get_or functions (extreme_code e) Count ≡ extreme_function e) × (keeps_entries (extreme_function e) ≡ true)
+unfolding keeps_entries
+extreme_coded Smallest = (refl, refl)
+extreme_coded Largest = (refl, refl)
 
 module _ (w : Window) (ss : List Sample) (x : Sample) (k n : ℕ) (p : List ℕ) (b : Before w ss x k n p) where
   width_here : width_in (slot_of p k) ≡ w.width
@@ -155,74 +198,70 @@ module _ (w : Window) (ss : List Sample) (x : Sample) (k n : ℕ) (p : List ℕ)
   unfolding enters
   slides c h = record {
     leaves = by (dec_lt n w.width);
-    old = λ e. old e (dec_lt n w.width);
-    enters = h.enters ∙ ap (qualifies_in p k) b.second ∙ qualifies_here (length ss) (omega arith) (omega arith);
-    new = h.new ∙ ap (value_in p k) b.second ∙ value_here (length ss) (omega arith) (omega arith) ∙ value_new w ss x;
+    enters =
+        h.enters
+        ∙ ap₂ then_some
+        (ap (qualifies_in p k) b.second ∙ qualifies_here (length ss) (omega arith) (omega arith))
+        (ap (value_in p k) b.second ∙ value_here (length ss) (omega arith) (omega arith) ∙ value_new w ss x);
   }
     where
       place : n - width_in (slot_of p k) ≡ length ss - w.width
       place = omega (arith, width_here, b.second)
 
-      by : Dec (n < w.width) → c.leaves ≡ leaves w ss
-      by (yes l) = h.filling (omega (arith, width_here)) ∙ sym (leaves_not w ss (omega (arith, b.second)))
+      by : Dec (n < w.width) → c.leaves ≡ then_some (leaves w ss) (leaving w ss)
+      by (yes l) = h.filling (omega (arith, width_here)) ∙ rw (leaves_not w ss (omega (arith, b.second))) refl
       by (no l) =
           let f : w.width ≤ length ss = omega (arith, b.second) in
-          (h.full (omega (arith, width_here))).0 ∙ ap (qualifies_in p k) place
+          h.full (omega (arith, width_here))
+          ∙ ap₂ then_some
+          (ap (qualifies_in p k) place
           ∙ qualifies_here (length ss - w.width) (omega arith) (omega (arith, wide.1))
-          ∙ qualifies_before w ss x (length ss - w.width) (omega (arith, wide.0)) ∙ sym (leaves_now w ss f)
-
-      old : c.leaves ≡ true → Dec (n < w.width) → c.old ≡ leaving w ss
-      old e (yes l) = absurd (false≢true (sym (h.filling (omega (arith, width_here))) ∙ e))
-      old e (no l) =
-          let f : w.width ≤ length ss = omega (arith, b.second) in
-          (h.full (omega (arith, width_here))).1 ∙ ap (value_in p k) place
+          ∙ qualifies_before w ss x (length ss - w.width) (omega (arith, wide.0)) ∙ sym (leaves_now w ss f))
+          (ap (value_in p k) place
           ∙ value_here (length ss - w.width) (omega arith) (omega (arith, wide.1))
-          ∙ value_before w ss x (length ss - w.width) (omega (arith, wide.0))
+          ∙ value_before w ss x (length ss - w.width) (omega (arith, wide.0)))
 
   module _ (c : Change) (h : Slides w ss x c) where
+    leaves_same : is_some c.leaves ≡ leaves w ss
+    leaves_same = ap is_some h.leaves ∙ some_is (leaves w ss) (leaving w ss)
+
+    pub enters_same : is_some c.enters ≡ enters w ss x
+    enters_same = ap is_some h.enters ∙ some_is (enters w ss x) (channel w.channel x)
+
     pub before_rollable : Rollable (count_in (slot_of p k)) (sum_in (slot_of p k)) c
     before_rollable =
         let o = wide in
         let m = b.stands.count in
-        let a = ap bit h.leaves in
-        let e = ap bit h.enters in
+        let a = ap bit leaves_same in
+        let e = ap bit enters_same in
         let v = count_before w ss o.0 in
         record {
           room = record {
             count = omega (arith, length_values w ss);
             leaves = omega arith;
             enters = omega (arith, count_step w ss o.0 x, length_values w (more ss x));
-            new = rw h.new (channel_storable x b.range w.channel);
+            new = rw h.enters (storable_is (enters w ss x) _ (channel_storable x b.range w.channel));
           };
           sum = rw b.stands.sum (omega (arith, sum_bound w ss max_channel (all_map (λ y r. channel_small y r w.channel) ss b.ranges)));
         }
 
     -- what leaves, by the change
-    pub leaving_same : one c.leaves c.old ≡ one (leaves w ss) (leaving w ss)
-    leaving_same = rw (← h.leaves) (by c.leaves refl)
-      where
-        by : (t : Bool) → c.leaves ≡ t → one t c.old ≡ one t (leaving w ss)
-        by true e = ap (λ (z : ℤ). z ∷ []) (h.old e)
-        by false e = refl
+    pub leaving_same : option_to_list c.leaves ≡ one (leaves w ss) (leaving w ss)
+    leaving_same = rw h.leaves (list_is (leaves w ss) (leaving w ss))
 
-    pub entering_same : one c.enters c.new ≡ one (enters w ss x) (channel w.channel x)
-    entering_same = rw (h.enters, h.new) refl
+    pub entering_same : option_to_list c.enters ≡ one (enters w ss x) (channel w.channel x)
+    entering_same = rw h.enters (list_is (enters w ss x) (channel w.channel x))
 
     pub sum_same : sum_after (sum_in (slot_of p k)) c ≡ sumℤ (values w (more ss x))
-    sum_same = rw (b.stands.sum, goes, h.enters, h.new) (sym (sum_step w ss wide.0 x))
-      where
-        by : (t : Bool) → c.leaves ≡ t → addend t c.old ≡ addend t (leaving w ss)
-        by true e = h.old e
-        by false e = refl
-
-        goes : addend c.leaves c.old ≡ addend (leaves w ss) (leaving w ss)
-        goes = rw (← h.leaves) (by c.leaves refl)
+    sum_same =
+        rw (b.stands.sum, h.leaves, h.enters, zero_is (leaves w ss) (leaving w ss), zero_is (enters w ss x) (channel w.channel x))
+        (sym (sum_step w ss wide.0 x))
 
     pub count_same : count_after (count_in (slot_of p k)) c ≡ length (values w (more ss x))
     count_same =
         let m = b.stands.count in
-        let a = ap bit h.leaves in
-        let e = ap bit h.enters in
+        let a = ap bit leaves_same in
+        let e = ap bit enters_same in
         omega (arith, count_step w ss wide.0 x)
 
 -- slot k's window record, count and sum are as before; its list and its store of values are those of the window with the sample
@@ -243,7 +282,7 @@ pub record Kept (k n : ℕ) (c : Change) (p q : List ℕ) : Type 0 where
 
 -- codes but 2, 3 and 5
 plain_function : (m : ℕ) → (m ≡ 2 → ⊥) → (m ≡ 3 → ⊥) → (m ≡ 5 → ⊥) → (keeps_entries (get_or functions m Count) ≡ false) × (get_or functions m Count ≡ Percentile → ⊥)
-unfolding functions keeps_entries
+unfolding keeps_entries
 plain_function zero a b c = (refl, λ e. let z : ◌≡◌ {A = ℕ} 0 1 = cc in omega arith)
 plain_function (suc zero) a b c = (refl, λ e. let z : ◌≡◌ {A = ℕ} 0 1 = cc in omega arith)
 plain_function (suc (suc zero)) a b c = absurd (a refl)
@@ -271,10 +310,10 @@ module _ (k n : ℕ) (c : Change) (p : List ℕ) where
   }
 
   -- smallest and largest
-  module _ (largest : Bool) (code : code_in (slot_of p k) ≡ 2 + bit largest) where
-    extreme_here : (w : Window) (ss : List Sample) (x : Sample) → Before w ss x k n p → (w.function ≡ extreme largest) × (keeps_entries w.function ≡ true)
+  module _ (extreme : Extreme) (code : code_in (slot_of p k) ≡ extreme_code extreme) where
+    extreme_here : (w : Window) (ss : List Sample) (x : Sample) → Before w ss x k n p → (w.function ≡ extreme_function extreme) × (keeps_entries w.function ≡ true)
     extreme_here w ss x b =
-        let l = extreme_function largest in
+        let l = extreme_coded extreme in
         let f = stands_function w ss (slot_of p k) b.stands _ code ∙ l.0 in
         (f, ap keeps_entries f ∙ l.1)
 
@@ -286,7 +325,7 @@ module _ (k n : ℕ) (c : Change) (p : List ℕ) where
     pub kept_full : (v : ℕ) → v ≡ width_in (slot_of p k) → (length (aged v n (list_of p k)) < list_capacity → ⊥) → Kept k n c p p
     kept_full v e full = record { beside = beside_same k p; around = λ i m z. refl; on = λ w ss x b h. absurd (full (rw e (room_here w ss x b))) }
 
-    pub kept_list : (v : ℕ) (q : List ℕ) → v ≡ width_in (slot_of p k) → ListStepped k v n largest c.new c.enters p q → Kept k n c p q
+    pub kept_list : (v : ℕ) (q : List ℕ) → v ≡ width_in (slot_of p k) → ListStepped k v n extreme c.enters p q → Kept k n c p q
     unfolding value_at
     kept_list v q y t = record {
       beside = t.beside;
@@ -294,28 +333,29 @@ module _ (k n : ℕ) (c : Change) (p : List ℕ) where
       on = λ w ss x b h.
           let e = extreme_here w ss x b in
           let l : list_of q k ≡ held w (more ss x) =
-          t.list ∙ rw (y, width_here w ss x k n p b, b.second, h.enters, b.stands.list)
-          (held_stepped w ss e.1 (wide w ss x k n p b).0 x (displaces_in largest c.new p k) (test w ss x b h e.0)) in
+          t.list
+          ∙ rw (h.enters, stepped_is (enters w ss x) (channel w.channel x) v n (λ z. displaces_in extreme z p k), y, width_here w ss x k n p b, b.second, b.stands.list)
+          (held_stepped w ss e.1 (wide w ss x k n p b).0 x (displaces_in extreme (channel w.channel x) p k) (test w ss x b e.0)) in
           record {
             first = t.first b.stands.first;
             list = l;
-            store = λ g. absurd (other largest (sym e.0 ∙ g));
+            store = λ g. absurd (other extreme (sym e.0 ∙ g));
             moves =
                 kept_moves w ss x (list_of p k) (list_of q k) (moves_of p) (moves_of q) e.1 b.stands.list l
-                (omega (arith, t.moves, ap length t.list, number_length (slot_of p k), ap bit h.enters));
+                (omega (arith, t.moves, ap length t.list, number_length (slot_of p k), ap bit (enters_same w ss x k n p b c h)));
           };
     }
       where
-        other : (t : Bool) → extreme t ≡ Percentile → ⊥
-        other true g = let z : ◌≡◌ {A = ℕ} 0 1 = cc in omega arith
-        other false g = let z : ◌≡◌ {A = ℕ} 0 1 = cc in omega arith
+        other : (t : Extreme) → extreme_function t ≡ Percentile → ⊥
+        other Smallest g = let z : ◌≡◌ {A = ℕ} 0 1 = cc in omega arith
+        other Largest g = let z : ◌≡◌ {A = ℕ} 0 1 = cc in omega arith
 
-        test : (w : Window) (ss : List Sample) (x : Sample) → Before w ss x k n p → Slides w ss x c → w.function ≡ extreme largest
+        test : (w : Window) (ss : List Sample) (x : Sample) → Before w ss x k n p → w.function ≡ extreme_function extreme
             → (i : ℕ) → i < length ss → length ss < i + w.width
-            → displaces_in largest c.new p k i ≡ displaces w.function (channel w.channel x) (value_at w ss i)
-        test w ss x b h f i l m =
+            → displaces_in extreme (channel w.channel x) p k i ≡ displaces w.function (channel w.channel x) (value_at w ss i)
+        test w ss x b f i l m =
             unfold displaces_in in
-            rw (f, h.new, value_here w ss x k n p b i (omega arith) (omega (arith, (wide w ss x k n p b).1)), value_before w ss x i l) refl
+            rw (f, value_here w ss x k n p b i (omega arith) (omega (arith, (wide w ss x k n p b).1)), value_before w ss x i l) refl
 
 -- what a caller shows before slot k's store of m values is changed
 pub record Fillable (p : List ℕ) (k m : ℕ) (c : Change) : Type 0 where
@@ -349,7 +389,7 @@ kept_values k n c p q whole slot code r = record {
   beside = r.written.beside;
   around = around_in store_place store_len _ _ rest first_place kept_len (omega arith) (omega arith);
   on = λ w ss x b h.
-      let f : w.function ≡ Percentile = stands_function w ss (slot_of p k) b.stands _ code ∙ unfold functions in refl in
+      let f : w.function ≡ Percentile = stands_function w ss (slot_of p k) b.stands _ code in
       let e : keeps_entries w.function ≡ false = ap keeps_entries f ∙ unfold keeps_entries in refl in
       let o = (wide w ss x k n p b).0 in
       record {

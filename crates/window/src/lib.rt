@@ -1,47 +1,48 @@
 // The sliding windows: their step as a sample comes, a new window, and the start. Safe on any bytes: numbers are tested before they are used.
 #![tactic(auto)]
 
-ghost use Rattle.std.specs.Prelude.{◌≡◌, [], ◌+◌, ◌≤◌, ◌<◌, ltb, length};
-ghost use Rattle.model.specs.Numbers.{bit};
+ghost use Rattle.std.specs.Prelude.{◌≡◌, [], ◌^◌, ◌≤◌, ◌<◌, ltb, nat_abs, length};
 ghost use Rattle.model.specs.Records.{record_length, max_windows};
 ghost use Rattle.slide.specs.Undisplaced.{aged};
 ghost use Rattle.slots.specs.Layout.{part_len, slot_of, code_in, count_in, list_capacity};
 ghost use Rattle.lists.specs.Lists.{list_of, Fit};
-ghost use Rattle.rolling.specs.Change.{Small, Roomy};
+ghost use Rattle.list_steps.specs.Steps.{extreme_code};
+ghost use Rattle.rolling.specs.Change.{or_zero, Small, Roomy};
 ghost use Rattle.window.specs.Stand.{Stands};
-ghost use Rattle.window.specs.Slot.{Changes, Fillable, Kept, Refilled, Turned};
+ghost use Rattle.window.specs.Slot.{qualifying_value, Changes, Fillable, Kept, Refilled, Turned};
 ghost use Rattle.window.specs.Sweep.{Sweeping, Steppable, Stepped, Added};
 
+use list_steps::Extreme;
+use model::Function;
 use rolling::Change;
 use slots::{LIST_CAPACITY, SLOT_LEN, SLOTS, STORE, STORE_LEN};
 
 // The store of slot 0.
 pub const STORES: usize = SLOTS + STORE;
 
+// The value that slot k's window reads of a second, where the second qualifies: read in any case, so that no branch depends on the data.
+fn qualifying_value(part: &[u8], k: usize, second: u16) -> Option<i64>
+    requires { (length part.now ≡ part_len) × (k < max_windows) }
+    ensures { (result ≡ qualifying_value part.now k second) × (nat_abs (or_zero result) < 2 ^ 32) }
+{
+    slots::qualifies(part, k, second).then_some(slots::value(part, k, second))
+}
+
 // What changes in slot k's window as second n comes, whose record the ring has already.
 fn read_change(part: &[u8], k: usize, n: u16) -> Change
     requires { (length part.now ≡ part_len) × (k < max_windows) }
     ensures { Changes part.now k n result }
 {
-    let enters = slots::qualifies(part, k, n);
-    let new = slots::value(part, k, n);
+    let enters = qualifying_value(part, k, n);
     let width = slots::width(part, k);
     if n < width {
         return Change {
-            leaves: false,
-            old: 0,
-            enters: enters,
-            new: new,
+            leaves: None,
+            enters,
         };
     }
-    let leaves = slots::qualifies(part, k, n - width);
-    let old = slots::value(part, k, n - width);
-    Change {
-        leaves: leaves,
-        old: old,
-        enters: enters,
-        new: new,
-    }
+    let leaves = qualifying_value(part, k, n - width);
+    Change { leaves, enters }
 }
 
 // The values in order of slot k, m of them.
@@ -68,15 +69,15 @@ fn has_room(part: &[u8], k: usize, w: u16, n: u16) -> bool
 }
 
 // The held entries of slot k, whose window is one of smallest or largest.
-fn keep_list(part: &mut [u8], k: usize, n: u16, largest: bool, c: Change)
-    requires { (Fit part.old k) × (code_in (slot_of part.old k) ≡ 2 + bit largest) }
+fn keep_list(part: &mut [u8], k: usize, n: u16, extreme: Extreme, c: Change)
+    requires { (Fit part.old k) × (code_in (slot_of part.old k) ≡ extreme_code extreme) }
     ensures { Kept k n c part.old part.new }
 {
     let w = slots::width(part, k);
     if !has_room(part, k, w, n) {
         return;
     }
-    list_steps::step_list(part, k, largest, w, n, c.new, c.enters);
+    list_steps::step_list(part, k, extreme, w, n, c.enters);
 }
 
 // What slot k's function keeps besides count and sum.
@@ -84,10 +85,10 @@ fn keep(part: &mut [u8], k: usize, n: u16, m: u32, c: Change)
     requires { (Fit part.old k) × (m ≡ count_in (slot_of part.old k)) × (Roomy m c) × (Small c) }
     ensures { Kept k n c part.old part.new }
 {
-    match slots::code(part, k) {
-        2 => keep_list(part, k, n, false, c),
-        3 => keep_list(part, k, n, true, c),
-        5 => keep_values(part, k, m as usize, c),
+    match Function::try_from(slots::code(part, k)) {
+        Ok(Function::Smallest) => keep_list(part, k, n, Extreme::Smallest, c),
+        Ok(Function::Largest) => keep_list(part, k, n, Extreme::Largest, c),
+        Ok(Function::Percentile) => keep_values(part, k, m as usize, c),
         _ => {}
     }
 }
@@ -114,10 +115,8 @@ fn sweep(part: &mut [u8], windows: usize, n: u16)
     requires { (length part.old ≡ part_len) × (windows ≤ max_windows) }
     ensures { Sweeping n windows windows part.old part.new }
 {
-    let mut k: usize = 0;
-    while k < windows {
+    for k in 0..windows {
         turn(part, k, n);
-        k += 1;
     }
 }
 

@@ -1,14 +1,14 @@
 -- `acceleration::count_sample` meets its contract. Assumes nothing.
-use Rattle.acceleration.specs.Sample.{counted}
+use Rattle.std.proofs.Common.{of_calls}
+use Rattle.limits.specs.PerClass.{value_in}
+use Rattle.acceleration.specs.Sample.{accelerates, within, counted}
 use Rattle.acceleration.proofs.count_sample.Goals as goal
 
 pub returns : goal.returns
 unfolding counted
 returns c =
-    rw (c.count_accelerating.ensures, c.count_within.ensures)
-
-pub count_accelerating-requires : goal.count_accelerating-requires
-count_accelerating-requires c = c.requires.accelerating
-
-pub count_within-requires : goal.count_within-requires
-count_within-requires c = c.requires.within
+    let x = c.args in
+    rw (
+      c.raise.ensures (λ k. accelerates k x.v x.rise) (λ k b p. search of_calls),
+      c.raise-2.ensures (λ k. within k (value_in x.b k) x.v x.rise) (λ k b p. search of_calls),
+    )

@@ -9,4 +9,4 @@ pub returns : goal.returns
 unfolding encode
 returns c =
     let x = c.args in
-    c.put_u64.ensures ∙ rw c.put_le.ensures (byte_field x.out.now x.at 1 8 x.k (omega arith))
+    c.put-2.ensures ∙ rw (c.put.ensures, c.from.ensures) (byte_field x.out.now x.at 1 8 x.number (omega arith))

@@ -1,9 +1,9 @@
 -- `area::number` meets its contract. Assumes nothing.
 use mathlib.Core.Path.{◌∙◌}
-use borrow.Author.Rules.{rules}
-use Rattle.area.proofs.Effects.{number_is}
+use Rattle.area.proofs.Effects.{head_number, number_is}
 use Rattle.area.proofs.number.Goals as goal
 
 pub returns : goal.returns
 returns c =
-    c.get_u32.ensures ∙ number_is _ _ (search rules)
+    let h = head_number c.args.which in
+    c.get.ensures ∙ rw h.0 (number_is _ _ h.1)

@@ -1,8 +1,10 @@
 -- `area::set_number` meets its contract. Assumes nothing.
 use native.Mathlib.Omega.{arith}
-use Rattle.area.proofs.Effects.{numbered}
+use Rattle.area.proofs.Effects.{head_number, numbered}
 use Rattle.area.proofs.set_number.Goals as goal
 
 pub returns : goal.returns
 returns c =
-    numbered _ _ c.args.k c.args.n c.requires.0 c.requires.1 (omega arith) c.put_u32.ensures
+    let h = head_number c.args.which in
+    let put = rw h.0 at c.put.ensures in
+    numbered _ _ _ c.args.n c.requires h.1 (omega arith) put

@@ -11,5 +11,5 @@ returns-then-area-ne-AREA_LEN c =
 
 pub returns : goal.returns
 returns c =
-    clear_done c.if-area-ne-AREA_LEN.false (search rules) c.clear_windows.ensures c.empty.ensures
+    clear_done (search rules) c.if-area-ne-AREA_LEN.false c.clear_windows.ensures c.empty.ensures
     c.write_tally.ensures c.set_format.ensures c.set_windows.ensures c.set_mark.ensures c.set_samples.ensures

@@ -1,25 +1,20 @@
 -- `calls::close` meets its contract. Assumes nothing.
-use mathlib.Core.Path.{sym, ◌∙◌}
 use borrow.Author.Rules.{rules}
+use Rattle.std.proofs.lemmas.Result.{err_from_is_err_and}
 use Rattle.model.specs.Trip.{close}
-use Rattle.steps.specs.Laws.{wrong_step}
-use Rattle.steps.specs.Refusals.{close_unmarked, close_closed}
+use Rattle.steps.specs.Refusals.{close_unlending, close_closed}
 use Rattle.steps.specs.Accepted.{close_done}
 use Rattle.calls.proofs.close.Goals as goal
 
-pub returns-then-area-ne-AREA_LEN : goal.returns-then-area-ne-AREA_LEN
-returns-then-area-ne-AREA_LEN c =
-    wrong_step close c.if-area-ne-AREA_LEN.true
+pub returns-in_err-recognise : goal.returns-in_err-recognise
+returns-in_err-recognise c =
+    let p = err_from_is_err_and c.from_residual.result c.from_residual.ensures.1 in
+    rw (p.1, p.2) (c.in_err-recognise.ensures close close_unlending)
 
-pub returns-then-format-ne-FORMAT : goal.returns-then-format-ne-FORMAT
-returns-then-format-ne-FORMAT c =
-    close_unmarked (search rules) (λ e. c.if-format-ne-FORMAT.true (c.format.ensures ∙ e))
-
-pub returns-then-mark-ne0 : goal.returns-then-mark-ne0
-returns-then-mark-ne0 c =
-    close_closed (search rules) (sym c.format.ensures ∙ c.if-format-ne-FORMAT.false) (λ e. c.if-mark-ne0.true (c.mark.ensures ∙ e))
+pub returns-then-is_closed : goal.returns-then-is_closed
+returns-then-is_closed c =
+    close_closed c.in_ok-recognise.ensures (c.is_closed.ensures.closed c.if-is_closed.true)
 
 pub returns : goal.returns
 returns c =
-    close_done (search rules) (search rules) (sym c.format.ensures ∙ c.if-format-ne-FORMAT.false) (sym c.mark.ensures ∙ c.if-mark-ne0.false)
-    c.set_mark.ensures
+    close_done (search rules) c.in_ok-recognise.ensures (c.is_closed.ensures.open c.if-is_closed.false) c.set_mark.ensures

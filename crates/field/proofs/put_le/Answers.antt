@@ -1,20 +1,15 @@
--- `field::put_le` meets its contract. What is left to write, written over the slice as it is, gives what is to be given. Assumes nothing.
-use mathlib.Core.Path.{◌≡◌, refl, ◌∙◌}
-use native.Mathlib.Omega.{arith}
-use borrow.Author.Rules.{rules}
-use lib.ListN.{length-set}
-use Rattle.field.proofs.Loops.{put_le_up, put_le_zero}
+-- `field::put_le` meets its contract. Assumes nothing.
+use Rattle.std.proofs.Common.{arith, length-take}
+use Rattle.field.proofs.Loops.{writing_start, writing_more, written}
 use Rattle.field.proofs.put_le.Goals as goal
 
-pub loop-left-init : goal.loop-left-init
-loop-left-init c =
-    (c.requires, refl, refl)
+pub loop-b-init : goal.loop-b-init
+loop-b-init c = writing_start _ _ _
 
-pub loop-left-preserved : goal.loop-left-preserved
-loop-left-preserved c =
-    (search rules, simp length-set c.loop-left.invariant.1, put_le_up _ _ _ _ c.loop-left-test.true ∙ c.loop-left.invariant.2)
+pub loop-b-preserved : goal.loop-b-preserved
+loop-b-preserved c =
+    let inside = simp length-take at c.loop-b-test.true in
+    writing_more _ _ _ _ _ _ c.loop-b.invariant (omega arith)
 
 pub returns : goal.returns
-returns c =
-    let z : c.loop-left.left ≡ 0 = omega arith in
-    rw (z, put_le_zero) at c.loop-left.invariant.2
+returns c = written c.args.n _ c.args.s.now c.args.at c.args.v _ _ _ (omega arith) c.requires c.loop-b.invariant c.loop-b-test.false

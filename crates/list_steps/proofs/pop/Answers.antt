@@ -7,28 +7,28 @@ use mir.ValLaws.{to_z-of_z}
 use Rattle.list_steps.specs.Steps.{pop_start, pop_empty, pop_stops, pop_more}
 use Rattle.list_steps.proofs.pop.Goals as goal
 
-pub loop-n-init : goal.loop-n-init
-loop-n-init c =
-    pop_start _ _ _ _ _ (search rules) c.number-n.ensures
+pub loop-last-init : goal.loop-last-init
+loop-last-init c =
+    pop_start _ _ _ _ _ (search rules) c.number-last.ensures
 
 pub shape_of-part-then-not-displaced : goal.shape_of-part-then-not-displaced
 shape_of-part-then-not-displaced c =
-    c.loop-n.invariant.done.beside.size
+    c.loop-last.invariant.done.beside.size
 
 pub returns-then-not-displaced : goal.returns-then-not-displaced
 returns-then-not-displaced c =
     let stays = sym c.displaced.ensures ∙ c.if-not-displaced.true in
-    rw (to_z-of_z w64 c.args.new c.ranges.new) at (pop_stops _ _ _ _ _ _ c.loop-n.invariant _ (omega arith) c.entry-x.ensures stays)
+    rw (to_z-of_z w64 c.args.new c.ranges.new) at (pop_stops _ _ _ _ _ _ c.loop-last.invariant _ (omega arith) c.entry-second.ensures stays)
 
-pub loop-n-preserved : goal.loop-n-preserved
-loop-n-preserved c =
+pub loop-last-preserved : goal.loop-last-preserved
+loop-last-preserved c =
     let goes = sym c.displaced.ensures ∙ c.if-not-displaced.false in
-    pop_more _ _ _ _ _ _ c.loop-n.invariant _ (omega arith) c.entry-x.ensures _ goes c.remove.ensures
+    pop_more _ _ _ _ _ _ c.loop-last.invariant _ (omega arith) c.entry-second.ensures _ goes c.remove.ensures
 
 pub shape_of-part : goal.shape_of-part
 shape_of-part c =
-    c.loop-n.invariant.done.beside.size
+    c.loop-last.invariant.done.beside.size
 
 pub returns : goal.returns
 returns c =
-    rw (to_z-of_z w64 c.args.new c.ranges.new) at (pop_empty _ _ _ _ _ _ c.loop-n.invariant (omega arith))
+    rw (to_z-of_z w64 c.args.new c.ranges.new) at (pop_empty _ _ _ _ _ _ c.loop-last.invariant (omega arith))

@@ -2,8 +2,5 @@
 use Rattle.list_steps.specs.Steps.{Popping}
 use Rattle.list_steps.proofs.pop.Given as goal
 
-abbrev pub invariant-loop-n : goal.invariant-loop-n
-invariant-loop-n l = Popping l.largest l.new l.k l.initial.part l.part l.n
-
-abbrev pub decreases-loop-n : goal.decreases-loop-n
-decreases-loop-n l = l.n
+abbrev pub invariant-loop-last : goal.invariant-loop-last
+invariant-loop-last l = Popping l.extreme l.new l.k l.fn.part l.part l.last

@@ -2,22 +2,32 @@
 use native.Mathlib.Omega.{arith}
 use mir.Syntax.{w64}
 use mir.ValLaws.{to_z-of_z}
-use Rattle.list_steps.specs.Steps.{step_skip, step_on, fit_after, append_ready}
+use mir.Val.{SFits}
+use borrow.Author.Rules.{rules}
+use Rattle.slide.specs.Undisplaced.{pops}
+use Rattle.lists.specs.Lists.{list_of}
+use Rattle.list_steps.specs.Steps.{displaces_in, Became, step_skip, step_on, fit_after, append_ready}
 use Rattle.list_steps.proofs.step_list.Goals as goal
-
-pub returns-then-not-qualifies : goal.returns-then-not-qualifies
-returns-then-not-qualifies c =
-    step_skip _ _ _ _ _ _ _ c.age.ensures _ c.if-not-qualifies.true
+use Rattle.list_steps.proofs.step_list.Goals.{After-pop}
 
 pub pop-requires : goal.pop-requires
 pop-requires c =
     fit_after _ _ _ _ c.requires.0 c.age.ensures (omega (arith, c.requires.1))
 
+popped : (c : After-pop) → Became c.args.k c.age.new.part c.pop.new.part (pops (displaces_in c.args.extreme c.in-Some.z c.age.new.part c.args.k) (list_of c.age.new.part c.args.k)) 0
+popped c =
+    let f : SFits w64 c.in-Some.z = search rules in
+    rw (to_z-of_z w64 c.in-Some.z f) at c.pop.ensures
+
 pub append-requires : goal.append-requires
 append-requires c =
-    append_ready _ _ _ _ _ _ _ c.age.ensures _ c.pop.ensures c.requires.0 c.requires.1
+    append_ready _ _ _ _ _ _ c.age.ensures _ _ (popped (goal.at.append-requires c).After-pop) c.requires.0 c.requires.1
 
-pub returns : goal.returns
-returns c =
-    let pop = rw (to_z-of_z w64 c.args.new c.ranges.new) at c.pop.ensures in
-    step_on _ _ _ _ _ _ _ c.age.ensures _ pop _ _ c.if-not-qualifies.false c.append.ensures
+pub returns-in-Some : goal.returns-in-Some
+returns-in-Some c =
+    rw c.in-Some.is
+    (step_on _ _ _ _ _ _ c.age.ensures _ _ (popped (goal.at.returns-in-Some c).After-pop) _ c.append.ensures)
+
+pub returns-in_default : goal.returns-in_default
+returns-in_default c =
+    rw c.in_default.is (step_skip _ _ _ _ _ _ c.age.ensures)

@@ -8,5 +8,5 @@ pub returns : goal.returns
 returns c =
     let f = c.first in
     let n = c.number-n in
-    appended _ _ _ _ _ _ _ c.requires.0 _ (search rules) (omega arith) (omega (arith, c.wrap-place.ensures, f.ensures, n.ensures)) (omega (arith, n.ensures))
-    c.slot_put.ensures c.slot_put-2.ensures c.count_move.ensures
+    appended _ _ _ _ _ _ _ c.requires.0 _ (search rules) (omega arith) (omega (arith, c.wrap.ensures, f.ensures, n.ensures)) (omega (arith, n.ensures))
+    c.put.ensures c.put-2.ensures c.count_move.ensures

@@ -5,4 +5,4 @@ use Rattle.lists.proofs.clear_list.Goals as goal
 
 pub returns : goal.returns
 returns c =
-    emptied _ _ _ _ (search rules) (search rules) c.slot_put.ensures c.slot_put-2.ensures
+    emptied _ _ _ _ (search rules) (search rules) c.put.ensures c.put-2.ensures

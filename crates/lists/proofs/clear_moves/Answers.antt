@@ -7,4 +7,4 @@ use Rattle.lists.proofs.clear_moves.Goals as goal
 
 pub returns : goal.returns
 returns c =
-    recounted _ _ _ _ (search rules) (omega arith) c.put_u64.ensures refl
+    recounted _ _ _ _ (search rules) (omega arith) c.put.ensures refl

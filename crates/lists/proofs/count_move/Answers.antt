@@ -6,4 +6,4 @@ use Rattle.lists.proofs.count_move.Goals as goal
 
 pub returns : goal.returns
 returns c =
-    recounted _ _ _ _ (search rules) (omega arith) c.put_u64.ensures (omega arith)
+    recounted _ _ _ _ (search rules) (omega arith) c.put.ensures (omega arith)

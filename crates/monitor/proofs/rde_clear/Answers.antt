@@ -5,4 +5,4 @@ use Rattle.monitor.proofs.rde_clear.Goals as goal
 
 pub returns : goal.returns
 returns c =
-    stepped c.clear.result refl c.reply.ensures c.clear.ensures
+    stepped c.clear.result refl c.from.ensures c.clear.ensures

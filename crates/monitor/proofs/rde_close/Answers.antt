@@ -5,4 +5,4 @@ use Rattle.monitor.proofs.rde_close.Goals as goal
 
 pub returns : goal.returns
 returns c =
-    stepped c.close.result refl c.reply.ensures c.close.ensures
+    stepped c.close.result refl c.from.ensures c.close.ensures

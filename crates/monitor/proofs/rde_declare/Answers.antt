@@ -5,4 +5,4 @@ use Rattle.monitor.proofs.rde_declare.Goals as goal
 
 pub returns : goal.returns
 returns c =
-    stepped c.declare.result refl c.reply.ensures c.declare.ensures
+    stepped c.declare.result refl c.from.ensures c.declare.ensures

@@ -5,4 +5,4 @@ use Rattle.monitor.proofs.rde_read.Goals as goal
 
 pub returns : goal.returns
 returns c =
-    stepped c.read.result refl c.reply.ensures c.read.ensures
+    stepped c.read.result refl c.from.ensures c.read.ensures

@@ -5,4 +5,4 @@ use Rattle.monitor.proofs.rde_sample.Goals as goal
 
 pub returns : goal.returns
 returns c =
-    stepped c.sample.result refl c.reply.ensures c.sample.ensures
+    stepped c.sample.result refl c.from.ensures c.sample.ensures

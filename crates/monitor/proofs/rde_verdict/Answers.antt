@@ -4,4 +4,4 @@ use Rattle.monitor.proofs.rde_verdict.Goals as goal
 
 pub returns : goal.returns
 returns c =
-    judged c.verdict.result c.verdict_reply.ensures c.verdict.ensures
+    judged c.verdict.result c.from.ensures c.verdict.ensures

@@ -7,9 +7,9 @@ use Rattle.ordered.proofs.remove.Goals as goal
 
 pub returns-then-p-m : goal.returns-then-p-m
 returns-then-p-m c =
-    let moved = c.move_up in
+    let moved = c.move_hole in
     let at = rw (to_z-of_z w64 c.args.z c.ranges.z) at c.place-p.ensures in
-    removed _ _ _ _ at _ _ moved.auto.store c.requires.0 moved.ensures (omega arith)
+    removed _ _ _ _ at _ moved.auto.store c.requires.0 c.if-p-m.true moved.ensures
 
 pub returns-else-p-m : goal.returns-else-p-m
 returns-else-p-m c =

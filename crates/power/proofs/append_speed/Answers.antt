@@ -6,6 +6,6 @@ use Rattle.power.proofs.append_speed.Goals as goal
 pub returns : goal.returns
 returns c =
     record {
-      is = c.put_u16.ensures;
-      speeds = rw c.put_u16.ensures (numbers_push 2 c.args.speeds.now c.args.n c.args.v.0 c.requires (omega arith));
+      is = c.put.ensures;
+      speeds = rw c.put.ensures (numbers_push 2 c.args.speeds.now c.args.n c.args.v.0 c.requires (omega arith));
     }

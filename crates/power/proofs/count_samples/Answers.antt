@@ -15,31 +15,22 @@ returns-then-n-lt2 c =
     let vs = speeds_of x.speeds.now x.n in
     rw c.no_counts.ensures (counted_few x.b vs x.n c.if-n-lt2.true (cells_length 2 le_val x.speeds.now x.n))
 
-pub loop-i-init : goal.loop-i-init
-loop-i-init c =
-    (omega arith, (omega arith, c.count_first-k.ensures))
-
 pub count_sample-k-requires : goal.count_sample-k-requires
 count_sample-k-requires c =
-    most_more c.loop-i.k (omega arith) c.loop-i.invariant.1.1.most
+    most_more c.loop-i.k (omega arith) c.loop-i.invariant.most
 
 pub loop-i-preserved : goal.loop-i-preserved
 loop-i-preserved c =
     let x = c.args in
-    let vs = speeds_of x.speeds.now x.n in (
-      omega arith,
-      (
-        omega arith,
-        rw (c.count_sample-k.ensures, c.rise_of-rise.ensures)
-            (counted_next x.b vs c.loop-i.i c.loop-i.k c.speed_at-v.result c.speed_at.result c.speed_at-in-loop-i.result
-            c.speed_at-v.ensures.1
-            c.speed_at.ensures.1
-            c.speed_at-v.ensures.0
-            c.speed_at.ensures.0
-            (c.speed_at-in-loop-i.ensures.0 ∙ before_later vs c.loop-i.i c.loop-i.invariant.0)
-            c.loop-i.invariant.1.1),
-      ),
-    )
+    let vs = speeds_of x.speeds.now x.n in
+    rw (c.count_sample-k.ensures, c.rise_of-rise.ensures)
+    (counted_next x.b vs c.loop-i.i c.loop-i.k c.speed_at-v.result c.speed_at.result c.speed_at-in-loop-i.result
+    c.speed_at-v.ensures.1
+    c.speed_at.ensures.1
+    c.speed_at-v.ensures.0
+    c.speed_at.ensures.0
+    (c.speed_at-in-loop-i.ensures.0 ∙ before_later vs c.loop-i.i c.loop-i.auto.i)
+    c.loop-i.invariant)
 
 pub returns : goal.returns
 returns c =
@@ -47,7 +38,4 @@ returns c =
     let vs = speeds_of x.speeds.now x.n in
     let e : c.loop-i.i + 1 ≡ x.n = omega arith in
     subst (λ (m : ℕ). CountedTo x.b vs m c.loop-i.k) e
-    (counted_last x.b vs c.loop-i.i c.loop-i.k (omega (arith, cells_length 2 le_val x.speeds.now x.n)) c.loop-i.invariant.1.1)
-
-pub loop-i-smaller : goal.loop-i-smaller
-loop-i-smaller c = omega arith
+    (counted_last x.b vs c.loop-i.i c.loop-i.k (omega (arith, cells_length 2 le_val x.speeds.now x.n)) c.loop-i.invariant)

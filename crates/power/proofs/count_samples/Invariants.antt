@@ -1,11 +1,7 @@
 -- `power::count_samples` meets its contract: after i turns the counts are those of the first i seconds. Assumes nothing.
-use Prim.Native.Nat.{◌-◌, ◌≤◌}
 use Rattle.power.specs.Speeds.{speeds_of}
 use Rattle.power.specs.Counts.{CountedTo}
 use Rattle.power.proofs.count_samples.Given as goal
 
 abbrev pub invariant-loop-i : goal.invariant-loop-i
-invariant-loop-i l = (1 ≤ l.i) × ((l.i ≤ l.last) × CountedTo l.b (speeds_of l.speeds l.n) l.i l.k)
-
-abbrev pub decreases-loop-i : goal.decreases-loop-i
-decreases-loop-i l = l.last - l.i
+invariant-loop-i l = CountedTo l.b (speeds_of l.speeds l.n) l.i l.k

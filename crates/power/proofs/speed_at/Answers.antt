@@ -9,4 +9,4 @@ use Rattle.power.proofs.speed_at.Goals as goal
 pub returns : goal.returns
 unfolding speed_in
 returns c =
-    (ap tenths_of (c.get_u16.ensures ∙ numbers_at 2 c.args.speeds.now c.args.n c.args.i c.requires.1), omega arith)
+    (ap tenths_of (c.get.ensures ∙ numbers_at 2 c.args.speeds.now c.args.n c.args.i c.requires.1), omega arith)

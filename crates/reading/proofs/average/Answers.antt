@@ -1,9 +1,10 @@
 -- `reading::average` meets its contract. Assumes nothing.
+use mathlib.Core.Path.{◌∙◌}
 use native.Mathlib.Omega.{arith}
 use borrow.Author.Rules.{rules}
 use mir.Syntax.{w64}
-use mir.Val.{SFits}
-use mir.ValLaws.{to_z-of_z}
+use mir.ValLaws.{to_z-of_z, to_z_pos}
+use Rattle.laws.specs.Signed.{floor_euclid}
 use Rattle.reading.specs.Read.{reads_none, reads_average}
 use Rattle.reading.proofs.average.Goals as goal
 
@@ -14,7 +15,8 @@ returns-then-count-eq0 c =
 
 pub returns : goal.returns
 returns c =
-    let f : SFits w64 c.sum.result = record { sfits = c.sum.type_inv } in
-    let floor = simp to_z-of_z at c.floor_div.ensures in
-    rw (to_z-of_z w64 _ (record { sfits = c.floor_div.type_inv }))
-    (reads_average _ _ _ c.count-count.ensures (search rules) _ c.requires.2 _ c.sum.ensures floor)
+    let n = to_z_pos w64 c.count-count.result (omega (arith, c.count-count.type_inv)) in
+    let z = to_z-of_z w64 c.sum.result (record { sfits = c.sum.type_inv }) in
+    let d = to_z-of_z w64 c.div_euclid.result (record { sfits = c.div_euclid.type_inv }) in
+    rw d
+    (reads_average _ _ _ c.count-count.ensures (search rules) _ c.requires.2 _ c.sum.ensures (rw (z, n) at c.div_euclid.ensures ∙ floor_euclid _ _))

@@ -12,7 +12,7 @@ returns-then-not-fit c =
 
 pub returns-then-number-eq0 : goal.returns-then-number-eq0
 returns-then-number-eq0 c =
-    reads_unheld _ _ c.args.largest c.requires.2 (omega (arith, c.number.ensures))
+    reads_unheld _ _ c.args.extreme c.requires.2 (omega (arith, c.number.ensures))
 
 pub entry-second-requires : goal.entry-second-requires
 entry-second-requires c =
@@ -22,4 +22,4 @@ entry-second-requires c =
 pub returns : goal.returns
 returns c =
     rw (to_z-of_z w64 _ (record { sfits = c.value.type_inv }))
-    (reads_first _ _ c.args.largest c.requires.2 _ _ (omega (arith, c.number.ensures)) c.entry-second.ensures c.value.ensures.0)
+    (reads_first _ _ c.args.extreme c.requires.2 _ _ (omega (arith, c.number.ensures)) c.entry-second.ensures c.value.ensures.0)

@@ -1,37 +1,30 @@
--- `replay::perform` meets its contract: the script has the whole of the call that is made. Assumes nothing.
-use mathlib.Core.Path.{sym, ap, ◌∙◌}
-use Prim.Native.Nat.{ℕ, ◌+◌, ◌≤◌}
-use native.Mathlib.Omega.{arith}
-use lib.ListN.{length}
-use Rattle.model.specs.Numbers.{le_at}
-use Rattle.script.specs.Script.{head_length}
-use Rattle.script.specs.Place.{ready_whole, inside, length_at, first_at}
+-- `replay::perform` meets its contract: the call of each kind is made, and its answer written. Assumes nothing.
+use mathlib.Core.Path.{refl, ap, sym}
+use Rattle.model.specs.Trip.{read}
+use Rattle.script.specs.Script.{call_of}
+use Rattle.replay.proofs.Dispatch.{called}
 use Rattle.replay.proofs.perform.Goals as goal
-use Rattle.replay.proofs.perform.Goals.{Start}
 
-in-script : (s : Start) → s.args.from + head_length + le_at 8 s.args.script.now (s.args.from + 1) ≤ length s.args.script.now
-in-script s =
-    let x = s.args in
-    rw length_at at (inside x.script.now x.from (ready_whole x.script.now x.from s.requires.1) s.requires.0)
+pub returns-in-Clear : goal.returns-in-Clear
+unfolding call_of
+returns-in-Clear c = called c.args.call c.in-Clear.is refl c.clear.ensures c.put_answer.ensures
 
-pub overflow_add-end : goal.overflow_add-end
-overflow_add-end c =
-    omega (arith, in-script (goal.at.overflow_add-end c).Start, c.get_u64.ensures)
+pub returns-in-Declare : goal.returns-in-Declare
+unfolding call_of
+returns-in-Declare c = called c.args.call c.in-Declare.is refl c.declare.ensures c.put_answer-in-Declare.ensures
 
-pub bounds-script-from : goal.bounds-script-from
-bounds-script-from c =
-    omega (arith, in-script (goal.at.bounds-script-from c).Start)
+pub returns-in-Sample : goal.returns-in-Sample
+unfolding call_of
+returns-in-Sample c = called c.args.call c.in-Sample.is refl c.sample.ensures c.put_answer-in-Sample.ensures
 
-pub slice_bounds-call-end : goal.slice_bounds-call-end
-slice_bounds-call-end c =
-    omega (arith, in-script (goal.at.slice_bounds-call-end c).Start, c.get_u64.ensures)
+pub returns-in-Close : goal.returns-in-Close
+unfolding call_of
+returns-in-Close c = called c.args.call c.in-Close.is refl c.close.ensures c.put_answer-in-Close.ensures
 
-pub returns : goal.returns
-returns c =
-    let n = c.get_u64 in
-    let x = c.args in
-    let script = x.script.now in
-    (ap (λ (m : ℕ). x.from + head_length + m) n.ensures ∙ sym (length_at script x.from), rw (first_at script x.from n.result n.ensures) c.call.ensures)
+pub returns-in-Read : goal.returns-in-Read
+unfolding call_of
+returns-in-Read c = called c.args.call c.in-Read.is (ap read (sym c.window_number-window.ensures)) c.read.ensures c.put_answer-in-Read.ensures
 
-pub get_u64-requires : goal.get_u64-requires
-get_u64-requires c = omega (arith, in-script (goal.at.get_u64-requires c).Start)
+pub returns-in-Verdict : goal.returns-in-Verdict
+unfolding call_of
+returns-in-Verdict c = called c.args.call c.in-Verdict.is refl c.verdict.ensures c.put_answer-in-Verdict.ensures

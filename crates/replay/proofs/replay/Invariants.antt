@@ -1,11 +1,7 @@
--- `replay::replay` meets its contract. The loop's invariant is `Going`; the measure is what is left of the script. Assumes nothing.
-use Prim.Native.Nat.{◌-◌}
-use lib.ListN.{length}
+-- `replay::replay` meets its contract. The loop's invariant is `Going`. Assumes nothing.
+use Rattle.script.specs.Next.{rest_of}
 use Rattle.replay.proofs.Going.{Going}
 use Rattle.replay.proofs.replay.Given as goal
 
-abbrev pub invariant-loop-from : goal.invariant-loop-from
-invariant-loop-from l = Going l.initial.area l.script l.initial.out l.area l.out l.from l.made l.written
-
-abbrev pub decreases-loop-from : goal.decreases-loop-from
-decreases-loop-from l = length l.script - l.from
+abbrev pub invariant-loop-call : goal.invariant-loop-call
+invariant-loop-call l = Going l.initial.area l.script l.initial.out l.area l.out (rest_of l.call-iterator) l.made l.written

@@ -1,17 +1,26 @@
 -- `rolling::restock` meets its contract. Assumes nothing.
 use borrow.Author.Rules.{rules}
 use mir.Syntax.{w64}
+use mir.Val.{SFits}
 use mir.ValLaws.{to_z-of_z}
-use Rattle.rolling.specs.Change.{one_replaced, restocked}
+use Rattle.rolling.specs.Change.{one_leaves, one_enters, one_replaced}
 use Rattle.rolling.proofs.restock.Goals as goal
 
-pub returns-then-c : goal.returns-then-c
-returns-then-c c =
-    let change = c.args.c in
-    one_replaced _ _ _ _ (to_z-of_z w64 change.old (search rules)) (to_z-of_z w64 change.new (search rules)) c.if-c.true
-    c.replace.ensures
+pub returns-in-Some-Some : goal.returns-in-Some-Some
+returns-in-Some-Some c =
+    let x = c.in-Some-Some in
+    let o : SFits w64 x.old = search rules in
+    let n : SFits w64 x.new = search rules in
+    one_replaced _ _ _ _ _ _ x.is-0 x.is-1 (rw (to_z-of_z w64 x.old o, to_z-of_z w64 x.new n) at c.replace.ensures)
 
-pub returns : goal.returns
-returns c =
-    let room = c.requires.1 in
-    restocked _ _ _ _ _ _ c.take_out-left.ensures.0 room.leaves c.take_out-left.ensures.1 c.put_in.ensures
+pub returns-in-Some-None : goal.returns-in-Some-None
+returns-in-Some-None c =
+    let x = c.in-Some-None in
+    let o : SFits w64 x.old = search rules in
+    one_leaves _ _ _ _ _ x.is-0 x.is-1 (rw (to_z-of_z w64 x.old o) at c.remove.ensures)
+
+pub returns-in-None-Some : goal.returns-in-None-Some
+returns-in-None-Some c =
+    let x = c.in-None-Some in
+    let n : SFits w64 x.new = search rules in
+    one_enters _ _ _ _ _ x.is-0 x.is-1 (rw (to_z-of_z w64 x.new n) at c.insert.ensures)

@@ -1,8 +1,6 @@
 -- `rolling::rollable` meets its contract. Assumes nothing.
 use native.Mathlib.Omega.{arith}
-use borrow.Author.Rules.{rules}
 use mir.Syntax.{w64}
-use mir.Val.{SFits}
 use mir.ValLaws.{to_z-of_z}
 use Rattle.model.specs.Numbers.{withinℤ}
 use Rattle.rolling.specs.Change.{rolling_beyond, rolling_tested}
@@ -15,6 +13,14 @@ returns-then-m-gt-MOST_COUNT c =
 pub returns : goal.returns
 unfolding withinℤ
 returns c =
-    let f = c.ranges.sum in
-    let g : SFits w64 c.args.c.new = search rules in
-    rw (c.bit-enters.ensures.0, c.bit-leaves.ensures.0) (simp to_z-of_z (rolling_tested _ _ _ (omega arith)))
+    let new = c.unwrap_or-new in
+    rw (
+      c.bit-enters.ensures.0,
+      c.bit-leaves.ensures.0,
+      c.is_some.ensures,
+      c.is_some-2.ensures,
+      to_z-of_z w64 c.args.sum c.ranges.sum,
+      to_z-of_z w64 new.result (record { sfits = new.type_inv }),
+      new.ensures,
+    )
+    (rolling_tested _ _ _ (omega arith))

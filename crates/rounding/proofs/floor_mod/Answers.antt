@@ -1,28 +1,18 @@
 -- `rounding::floor_mod` meets its contract. Assumes nothing.
-use mathlib.Core.Path.{◌≡◌, sym}
-use native.Mathlib.Nat.{mod-lt}
+use mathlib.Core.Path.{◌≡◌, sym, ap, ◌∙◌}
 use native.Mathlib.Omega.{arith}
-use lib.Signed.{mag}
-use mir.ValLaws.{to_z-of_z}
-use Rattle.rounding.specs.Floor.{rest_is, rest_below, rest_above}
+use lib.IntN.{nat_abs}
+use mir.Syntax.{w64}
+use mir.Val.{to_z, of_z}
+use mir.ValLaws.{to_z-of_z, to_z_pos}
+use Rattle.rounding.specs.Floor.{rest, rest_is, rest_less, rest_euclid}
 use Rattle.rounding.proofs.floor_mod.Goals as goal
-use Rattle.rounding.proofs.floor_mod.Goals.{After-complemented}
 
-mag_is : (c : After-complemented) → c.complemented.result ≡ mag c.args.sum
-mag_is c = let f = c.ranges.sum in simp to_z-of_z at c.complemented.ensures
-
-pub overflow_sub-result-then-sum-lt0 : goal.overflow_sub-result-then-sum-lt0
-overflow_sub-result-then-sum-lt0 c =
-    omega (arith, mod-lt c.complemented.result c.requires)
-
-pub returns-then-sum-lt0 : goal.returns-then-sum-lt0
-returns-then-sum-lt0 c =
+left : (c : goal.After-rem_euclid) → nat_abs (to_z w64 (of_z w64 c.rem_euclid.result)) ≡ rest c.args.sum c.args.count
+left c =
     let f = c.ranges.sum in
-    let e = rest_below c.args.sum c.args.count (simp to_z-of_z at c.if-sum-lt0.true) in
-    (rw (mag_is (goal.at.returns-then-sum-lt0 c).After-complemented, e) (sym (rest_is c.args.sum c.args.count c.requires)), omega arith)
+    let n = to_z_pos w64 c.args.count (omega arith) in
+    ap nat_abs (to_z-of_z w64 c.rem_euclid.result (record { sfits = c.rem_euclid.type_inv }) ∙ rw n at (simp to_z-of_z at c.rem_euclid.ensures.value) ∙ rest_euclid _ _)
 
-pub returns-else-sum-lt0 : goal.returns-else-sum-lt0
-returns-else-sum-lt0 c =
-    let f = c.ranges.sum in
-    let e = rest_above c.args.sum c.args.count (simp to_z-of_z at c.if-sum-lt0.false) in
-    (rw (mag_is (goal.at.returns-else-sum-lt0 c).After-complemented, e) (sym (rest_is c.args.sum c.args.count c.requires)), mod-lt c.complemented.result c.requires)
+pub returns : goal.returns
+returns c = rw (left c) (sym (rest_is c.args.sum c.args.count c.requires), rest_less c.args.sum c.args.count c.requires)

@@ -5,14 +5,14 @@ use native.Mathlib.Omega.{arith}
 use Rattle.limits.specs.Table.{share_most}
 use Rattle.rule.proofs.share_outside.Goals as goal
 
-pub overflow_mul-share_low : goal.overflow_mul-share_low
-overflow_mul-share_low c =
-    rw c.share_low.ensures (record { fits = omega (arith, mul-le-mul (share_most c.args.c).0 c.requires.1) })
+pub overflow_mul-share : goal.overflow_mul-share
+overflow_mul-share c =
+    rw c.share_of-share.ensures.0 (record { fits = omega (arith, mul-le-mul (share_most c.args.c).0 c.requires.1) })
 
-pub overflow_mul-share_high : goal.overflow_mul-share_high
-overflow_mul-share_high c =
-    rw c.share_high.ensures (record { fits = omega (arith, mul-le-mul (share_most c.args.c).1 c.requires.1) })
+pub overflow_mul-share-2 : goal.overflow_mul-share-2
+overflow_mul-share-2 c =
+    rw c.share_of-share.ensures.1 (record { fits = omega (arith, mul-le-mul (share_most c.args.c).1 c.requires.1) })
 
 pub returns : goal.returns
 returns c =
-    c.outside.ensures ∙ rw (c.share_high.ensures, c.share_low.ensures)
+    c.outside.ensures ∙ rw (c.share_of-share.ensures.0, c.share_of-share.ensures.1)

@@ -6,6 +6,5 @@ use Rattle.slots.proofs.copy_record.Goals as goal
 
 pub returns : goal.returns
 returns c =
-    let known = c.shared_slice_known-1 in
-    let written = rw c.put_u64.ensures at c.put_u64-2.ensures in
-    copied _ (λ i. omega (arith, known.given i)) 8 8 _ _ _ _ _ (search rules) c.get_u64-front.ensures c.get_u64-back.ensures written
+    let written = rw c.put.ensures at c.put-2.ensures in
+    copied _ (λ i. omega (arith, c.type_inv.bytes i)) 8 8 _ _ _ _ _ (search rules) c.get-front.ensures c.get-back.ensures written

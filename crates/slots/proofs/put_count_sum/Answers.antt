@@ -3,10 +3,10 @@ use native.Mathlib.Omega.{arith}
 use borrow.Author.Rules.{rules}
 use mir.Syntax.{w64}
 use mir.ValLaws.{to_z-of_z}
-use Rattle.slots.specs.Effects.{totalled, written_le}
+use Rattle.slots.specs.Effects.{totalled}
 use Rattle.slots.proofs.put_count_sum.Goals as goal
 
 pub returns : goal.returns
 returns c =
-    totalled _ _ _ _ _ _ (search rules) (search rules) (omega arith) c.ranges.sum c.slot_put.ensures
-    (written_le 8 _ _ _ _ _ (omega arith) (rw (to_z-of_z w64 c.args.sum c.ranges.sum) at c.put_i64.ensures))
+    totalled _ _ _ _ _ _ (search rules) (search rules) (omega arith) c.ranges.sum c.put.ensures
+    (rw (to_z-of_z w64 c.args.sum c.ranges.sum) at c.put-2.ensures)

@@ -4,6 +4,6 @@ use Rattle.tally_update.proofs.low_class.Goals as goal
 
 pub returns : goal.returns
 returns c = (
-  λ i. record { samples = c.get_u32.ensures i; distance = record { 0 = c.get_u32-2.ensures i } },
+  λ i. record { samples = c.get.ensures i; distance = record { 0 = c.get-2.ensures i } },
   record { samples = omega arith; distance = omega arith },
 )

@@ -11,15 +11,15 @@ use Rattle.tally_update.proofs.raise_sum.Goals as goal
 
 pub overflow_add-sum-2 : goal.overflow_add-sum-2
 overflow_add-sum-2 c =
-    plus_fits (pos (c.get_u32-low.result + 2 ^ 32 * c.get_u16-above.result)) c.args.z (omega arith) c.requires.1
+    plus_fits (pos (c.get-low.result + 2 ^ 32 * c.get-above.result)) c.args.z (omega arith) c.requires.1
 
 pub returns : goal.returns
 unfolding low_sum
 returns c =
     let z = c.args.z in
-    let read : ℕ = c.get_u32-low.result + 2 ^ 32 * c.get_u16-above.result in
+    let read : ℕ = c.get-low.result + 2 ^ 32 * c.get-above.result in
     let sum : read ≡ low_sum c.args.b.now c.args.at =
-    ap₂ (λ (l m : ℕ). l + 2 ^ 32 * m) c.get_u32-low.ensures c.get_u16-above.ensures in
-    c.put_i64.ensures
+    ap₂ (λ (l m : ℕ). l + 2 ^ 32 * m) c.get-low.ensures c.get-above.ensures in
+    c.put.ensures
     ∙ ap (λ (y : ℤ). put_le 8 c.args.b.now c.args.at (unsigned 8 y))
     (plus_is (pos read) z (omega arith) c.requires.1 ∙ ap (λ (n : ℕ). pos n +ℤ z) sum)

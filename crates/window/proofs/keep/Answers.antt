@@ -1,15 +1,20 @@
 -- `window::keep` meets its contract. Assumes nothing.
-use mathlib.Core.Path.{sym, ◌∙◌}
+use mathlib.Core.Path.{◌≡◌}
+use borrow.Author.Rules.{rules}
+use Rattle.slots.specs.Layout.{slot_of, code_in}
 use Rattle.window.specs.Slot.{kept_values, kept_plain}
 use Rattle.window.proofs.keep.Goals as goal
 
-pub returns-in-5 : goal.returns-in-5
-returns-in-5 c =
+pub returns-in-Ok-Percentile : goal.returns-in-Ok-Percentile
+returns-in-Ok-Percentile c =
     let ready = c.requires.0.ready in
-    kept_values _ _ _ _ _ ready.size ready.slot (sym c.code.ensures ∙ c.in-5.is) c.keep_values.ensures
+    let code : code_in (slot_of c.args.part.now c.args.k) ≡ 5 = search rules in
+    kept_values _ _ _ _ _ ready.size ready.slot code c.keep_values.ensures
 
-pub returns-in_default : goal.returns-in_default
-returns-in_default c =
-    let r = c.in_default.in_default-own.rest in
-    let e = c.code.ensures in
-    kept_plain _ _ _ _ (λ h. r.0.0.1 (e ∙ h)) (λ h. r.0.1 (e ∙ h)) (λ h. r.1 (e ∙ h))
+pub returns : goal.returns
+returns c =
+    kept_plain _ _ _ _ (λ h. search rules) (λ h. search rules) (λ h. search rules)
+
+pub returns-2 : goal.returns-2
+returns-2 c =
+    kept_plain _ _ _ _ (λ h. search rules) (λ h. search rules) (λ h. search rules)

@@ -1,6 +1,4 @@
 -- `window::sweep` meets its contract. Assumes nothing.
-use mathlib.Core.Path.{◌≡◌}
-use native.Mathlib.Omega.{arith}
 use borrow.Author.Rules.{rules}
 use Rattle.window.specs.Sweep.{sweep_start, sweep_on}
 use Rattle.window.proofs.sweep.Goals as goal
@@ -12,8 +10,3 @@ loop-k-init c =
 pub loop-k-preserved : goal.loop-k-preserved
 loop-k-preserved c =
     sweep_on _ _ _ _ _ _ c.loop-k.invariant (search rules) c.turn.ensures
-
-pub returns : goal.returns
-returns c =
-    let e : c.loop-k.k ≡ c.args.windows = omega (arith, c.loop-k.invariant.turns) in
-    rw e at c.loop-k.invariant

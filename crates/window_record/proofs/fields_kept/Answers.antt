@@ -7,9 +7,9 @@ use Rattle.window_record.proofs.fields_kept.Goals as goal
 
 pub returns : goal.returns
 returns c =
-    let low = c.get_i32 in
-    let high = c.get_i32-2 in
-    field_tests _ _ _ _ _ _ _ _ c.get_u8-channel.ensures c.get_u8-condition.ensures c.get_u8-zero.ensures
-    c.get_u16-w.ensures c.get_u16-zeros.ensures
+    let low = c.get in
+    let high = c.get-2 in
+    field_tests _ _ _ _ _ _ _ _ c.get-channel.ensures c.get-condition.ensures c.get-zero.ensures
+    c.get-w.ensures c.get-zeros.ensures
     (to_z-of_z w32 low.result (record { sfits = low.type_inv }) ∙ low.ensures)
     (to_z-of_z w32 high.result (record { sfits = high.type_inv }) ∙ high.ensures)

@@ -1,7 +1,0 @@
--- `limits::slope` meets its contract. Assumes nothing.
-use Rattle.limits.specs.Line.{most}
-use Rattle.limits.proofs.slope.Goals as goal
-
-pub returns : goal.returns
-returns c =
-    (c.figure.ensures, rw c.figure.ensures (most c.args.c c.args.line c.requires).1.0)

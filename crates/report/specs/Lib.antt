@@ -1,2 +1,0 @@
--- What the contracts of `report`'s reading cite.
-pub mod Input

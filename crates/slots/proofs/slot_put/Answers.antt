@@ -1,8 +1,0 @@
--- `slots::slot_put` meets its contract. Assumes nothing.
-use native.Mathlib.Omega.{arith}
-use Rattle.slots.specs.Effects.{written_le}
-use Rattle.slots.proofs.slot_put.Goals as goal
-
-pub returns : goal.returns
-returns c =
-    written_le _ _ _ _ _ _ (omega arith) c.put_le.ensures

@@ -22,13 +22,13 @@
  * address among them (measured, of the library as this toolchain builds it: tests/stack/run):
  *     rde_area_len  8
  *     rde_clear     8
- *     rde_declare   24
- *     rde_sample    216
+ *     rde_declare   56
+ *     rde_sample    296
  *     rde_close     8
  *     rde_read      8
  *     rde_verdict   392
  *     rde_tally     120
- *     rde_join      552
+ *     rde_join      584
  */
 #ifndef RDE_H
 #define RDE_H

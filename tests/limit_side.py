@@ -263,7 +263,7 @@ def faults(source):
     asked = source.callers(SIDE)
     yield None if len(asked) == len(CLASSES) else '%s is called %d times' % (SIDE, len(asked))
     for name, field in CLASSES.items():
-        times = sum(call.arguments == [name, ',', 't', '.', field] for call in asked)
+        times = sum(call.arguments == [name, ',', 't', '.', 'tally', '.', field] for call in asked)
         yield None if times == 1 else '%s is called %d times for %s' % (SIDE, times, field)
     for name in NAMED:
         calls = sum(name in (call.callee, call.callee.split('::')[-1]) for call in source.calls)
@@ -292,10 +292,10 @@ def way(source):
 
 
 # Faults: what is wrong, the crate, the text and what it becomes, and what must be said of it.
-WALK = 'let v = speed_at(speeds, n, i);'
+WALK = 'let v = speeds.at(i);'
 BOUNDS = 'acceleration::bounds_of(limits_of(t))'
-BROKEN = 'let b = broken(t, speeds, n, e);'
-URBAN = 'limits::limit_of(SpeedClass::Urban, t.urban)'
+BROKEN = 'let b = broken(trip, Speeds { bytes: speeds, n }, e);'
+URBAN = 'limits::limit_of(SpeedClass::Urban, t.tally.urban)'
 IN_CLASS = '// Whether a speed is of a class.'
 FIRST = '// The speed of second n goes after the first n.'
 MODEL = 'use model::{'
@@ -315,10 +315,10 @@ WRONG = [
     ('the limits are reckoned twice', 'power', BOUNDS,
      BOUNDS + ', crate::limits_of(t)',
      'power::limits_of is called 2 times'),
-    ("a class by another's tally", 'power', '(SpeedClass::Rural, t.rural)',
-     '(SpeedClass::Rural, t.urban)',
+    ("a class by another's tally", 'power', '(SpeedClass::Rural, t.tally.rural)',
+     '(SpeedClass::Rural, t.tally.urban)',
      'limits::limit_of is called 0 times for rural'),
-    ('a class is left out', 'power', 'limits::limit_of(SpeedClass::Rural, t.rural)',
+    ('a class is left out', 'power', 'limits::limit_of(SpeedClass::Rural, t.tally.rural)',
      URBAN,
      'limits::limit_of is called 0 times for rural'),
     ('another function takes a slope', 'limits', IN_CLASS,
@@ -355,19 +355,19 @@ WRONG = [
      'const SCALE: u64 = 2592;',
      '2592 stands in limits::limit_of, power::(outside its functions)'),
     ('another crate asks, by an import', 'rule', MODEL,
-     'use limits::limit_of as side; fn f(t: Tally) -> u64 { side(SpeedClass::Urban, t.urban) } ' + MODEL,
+     'use limits::limit_of as side; fn f(t: TripTally) -> u64 { side(SpeedClass::Urban, t.tally.urban) } ' + MODEL,
      'limits::limit_of is called by power::limits_of, rule::f'),
     ('a crate has another name', 'rule', MODEL,
-     'use limits as l; fn f(t: Tally) -> u64 { l::limit_of(SpeedClass::Urban, t.urban) } ' + MODEL,
+     'use limits as l; fn f(t: TripTally) -> u64 { l::limit_of(SpeedClass::Urban, t.tally.urban) } ' + MODEL,
      'limit_of is named 4 times and called 3'),
     ('a function is named and not called', 'power', FIRST,
      'fn f() { let side = limits::limit_of; }',
      'limit_of is named 4 times and called 3'),
     ('the verdict asks for the rules in a loop', 'verdict', BROKEN,
-     'let mut b = 0; while b < 1 { b = broken(t, speeds, n, e); }',
+     'let mut b = 0; while b < 1 { b = broken(trip, s, e); }',
      'verdict::verdict calls verdict::broken in a loop'),
     ('it asks for the rules twice', 'verdict', BROKEN,
-     'let b = broken(t, speeds, n, e) + broken(t, speeds, n, e);',
+     'let b = broken(trip, s, e) + broken(trip, s, e);',
      'verdict::broken is called 2 times'),
     ('it does not ask for them', 'verdict', BROKEN,
      'let b = 0;',
@@ -399,8 +399,8 @@ WRONG = [
     ('a crate under another name', 'rule', MODEL,
      'use power as p; ' + MODEL,
      'a crate of the way is imported whole by rule'),
-    ('a function of the way has another name', 'power', 'fn limits_of(t: Tally)',
-     'fn all_limits(t: Tally)',
+    ('a function of the way has another name', 'power', 'fn limits_of(t: TripTally)',
+     'fn all_limits(t: TripTally)',
      'limits_of is named 1 times and called 0'),
     ('the area is judged in a loop', 'area', 'verdict::verdict(t,',
      'while n < 9 { n = n + 1; } loop { verdict::verdict(t, b, n, e); } verdict::verdict(t,',

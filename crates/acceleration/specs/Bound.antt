@@ -2,8 +2,10 @@
 --     bound_none         in a class without samples no power is beyond it
 --     bound_most         nor is one where the quotient of the two sides is past every power
 --     bound_quotient     else the bound is that quotient
+--     bound_read         both, by whether the quotient is a u32
 -- Assumes nothing.
-use Rattle.std.specs.Prelude.{◌≡◌, Bool, true, false, ℕ, ◌*◌, ◌/◌, ◌≤◌, ◌<◌, ltb, ℤ, pos, ◌*ℤ◌}
+use Rattle.std.specs.Prelude.{◌≡◌, Bool, true, false, ℕ, ◌*◌, ◌/◌, ◌^◌, ◌≤◌, ◌<◌, ltb, ℤ, pos, ◌*ℤ◌, Result, Ok, Err, OkIff}
+use Rattle.std.specs.Result.{result_unwrap_or}
 use Rattle.std.proofs.Common.{sym, ◌∙◌, div-lt_iff_lt-mul, le-div_iff_mul-le, arith, le-ltb, lt-ltb}
 use Rattle.std.proofs.Math.Decide.{dec_lt}
 use Rattle.std.specs.Int.Signed.{lt_z}
@@ -55,3 +57,9 @@ module _ (l : PowerLimit) (b : Power) where
         by (no g) =
             le-ltb b.0 p (omega arith)
             ∙ sym (within_limit l p ((le-div_iff_mul-le {k = l.factor} {x = p} {y = l.side} k).0 (rw (← e) (omega arith))))
+
+    -- the quotient where it is a P, else the largest P
+    pub bound_read : {E : Type 0} (r : Result ℕ E) → OkIff r (l.side / l.factor < 2 ^ 32) (l.side / l.factor) → b.0 ≡ result_unwrap_or r most_power
+        → BoundOf l b
+    bound_read (Ok x) o e = bound_quotient (e ∙ o.1)
+    bound_read (Err x) o e = bound_most (omega (arith, e, o)) e

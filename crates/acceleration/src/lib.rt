@@ -34,21 +34,14 @@ pub struct Counts {
 // From this rise on a sample is accelerating.
 const LEAST_RISE: u16 = 8;
 
-// The largest u32: no P is above it.
-const MOST_POWER: u64 = 0xffff_ffff;
-
-// The largest P that is not beyond a limit; MOST_POWER where none is beyond it.
+// The largest P that is not beyond a limit; the largest u32 where none is beyond it, since no P is above that.
 fn bound_of(limit: PowerLimit) -> Power
     ensures { BoundOf limit result }
 {
     if limit.factor == 0 {
-        return Power(MOST_POWER as u32);
+        return Power(u32::MAX);
     }
-    let p = limit.side / limit.factor;
-    if MOST_POWER < p {
-        return Power(MOST_POWER as u32);
-    }
-    Power(p as u32)
+    Power(u32::try_from(limit.side / limit.factor).unwrap_or(u32::MAX))
 }
 
 // The largest P that is not beyond the line, for each class.
@@ -61,7 +54,7 @@ pub fn bounds_of(limits: PerClass<PowerLimit>) -> PerClass<Power>
 fn acceleration_of(next: Speed, previous: Speed) -> Acceleration
     ensures { result.0 ≡ acceleration_of next previous }
 {
-    Acceleration((next.0 as i64) - (previous.0 as i64))
+    Acceleration(i64::from(next.0) - i64::from(previous.0))
 }
 
 // The speeds are compared, and not A with 0, so that the compiled walk keeps to 16 bits.
@@ -78,10 +71,11 @@ pub fn rise_of(next: Speed, previous: Speed) -> Rise
 fn power_of(v: Speed, rise: Rise) -> Power
     ensures { result.0 ≡ tenths v * rise.0 }
 {
-    Power((v.0 as u32) * (rise.0 as u32))
+    Power(u32::from(v.0) * u32::from(rise.0))
 }
 
 // Whether a sample is an accelerating one of the class.
+#[tactic(auto, unfolding(crate::specs::Sample::accelerates))]
 fn accelerates_in(c: SpeedClass, v: Speed, rise: Rise) -> bool
     ensures { result ≡ accelerates c v rise }
 {
@@ -89,6 +83,7 @@ fn accelerates_in(c: SpeedClass, v: Speed, rise: Rise) -> bool
 }
 
 // Whether it is one whose P is not above the bound.
+#[tactic(auto, unfolding(crate::specs::Sample::within))]
 fn within_in(c: SpeedClass, bound: Power, v: Speed, rise: Rise) -> bool
     ensures { result ≡ within c bound v rise }
 {
@@ -101,10 +96,11 @@ fn raise<F: Fn(SpeedClass) -> bool>(k: PerClass<u16>, test: F) -> PerClass<u16>
     requires { Most max_samples k × ((c : SpeedClass) → F.pre test c) }
     ensures { (t : SpeedClass → Bool) → ((c : SpeedClass) (b : Bool) → F.post test c b → b ≡ t c) → result ≡ raised k t }
 {
-    PerClass::of(|c| k.get(c) + (model::bit(test(c)) as u16))
+    PerClass::of(|c| k.get(c) + u16::from(test(c)))
 }
 
 // The counts with one sample more, which counts in its class if it is accelerating.
+#[tactic(auto, unfolding(crate::specs::Sample::counted))]
 pub fn count_sample(k: Counts, b: PerClass<Power>, v: Speed, rise: Rise) -> Counts
     requires { MostCounts max_samples k }
     ensures { result ≡ counted b k v rise }
@@ -115,6 +111,7 @@ pub fn count_sample(k: Counts, b: PerClass<Power>, v: Speed, rise: Rise) -> Coun
     }
 }
 
+// Three zeros by name: with `PerClass::of(|_| 0)`, tried, the proof did not close by itself.
 pub fn no_counts() -> Counts
     ensures { result ≡ no_counts }
 {

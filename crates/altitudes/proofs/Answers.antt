@@ -1,5 +1,4 @@
--- What the code of this crate works out, one law for each way out. Assumes nothing.
-use mathlib.Core.Bool.{false}
+-- What `altitudes::keep` makes of the part, one law for each way out. Assumes nothing.
 use mathlib.Core.List.{List}
 use mathlib.Core.Path.{◌≡◌, refl, ap}
 use Prim.Native.Nat.{ℕ, zero, suc, ◌+◌, ◌^◌, ◌≤◌, ◌<◌}
@@ -8,22 +7,10 @@ use lib.IntN.{ℤ}
 use lib.ListN.{length}
 use lib.Signed.{mag}
 use Rattle.model.specs.Numbers.{le_at, signed, unsigned}
-use Rattle.model.specs.Rules.{apart}
 use Rattle.field.specs.Le.{put_le, put_le_length, le_other}
 use Rattle.field.specs.Part.{Apart}
 use Rattle.field.specs.Twos.{signed_same}
-use Rattle.altitudes.specs.declared.Ends.{Ends}
-use Rattle.altitudes.specs.Ends.{altitude_len, ends_len, ends_from, with_altitude, ends_rule}
-
--- without a sample the rule is kept, with one the two altitudes decide it
-pub no_sample : (n : ℕ) (e : Ends) → n ≡ 0 → false ≡ ends_rule n e
-unfolding ends_rule
-no_sample n e h = rw h refl
-
-pub some_sample : (n : ℕ) (e : Ends) → (n ≡ 0 → ⊥) → apart e.first e.last ≡ ends_rule n e
-unfolding ends_rule
-some_sample zero e h = absurd (h refl)
-some_sample (suc n) e h = refl
+use Rattle.altitudes.specs.Ends.{altitude_len, ends_len, ends_from, with_altitude}
 
 -- an altitude that is written as the last, and of second 0 as the first too
 module _ (xs : List ℕ) (size : length xs ≡ ends_len) (z : ℤ) (f : mag z < 2 ^ 31) where

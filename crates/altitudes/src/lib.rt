@@ -38,6 +38,7 @@ pub fn read(part: &[u8]) -> Ends
 }
 
 // The altitude of second n becomes the last, that of second 0 also the first.
+#[tactic(auto, using(std::proofs::lemmas::Int::ints, crate::proofs::Answers::kept_later, crate::proofs::Answers::kept_first))]
 pub fn keep(part: &mut [u8], n: usize, altitude: i16)
     requires { length part.old ≡ ends_len }
     ensures { Kept n altitude part.old part.new }
@@ -58,7 +59,8 @@ fn apart(a: i32, b: i32) -> bool
     TOO_FAR <= b.abs_diff(a)
 }
 
-// Rule 21 of n samples with these altitudes; without a sample there are none.
+// Rule 21 of n samples with these altitudes; without a sample there are none. n is the trip's own number, no flag of the altitudes.
+#[tactic(auto, unfolding(crate::specs::Ends::ends_rule))]
 pub fn ends_rule(n: usize, e: Ends) -> bool
     ensures { result ≡ ends_rule n e }
 {

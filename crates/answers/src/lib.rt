@@ -12,12 +12,20 @@ use model::{Refusal, Verdict};
 // Bytes of an answer.
 pub const ANSWER_LEN: usize = 9;
 
+// What an answer is: the first of its bytes.
+#[derive(Clone, Copy)]
+enum Kind {
+    Number,
+    Refusal,
+    Verdict,
+}
+
 // What an accepted call answers: a number, or the verdict.
 pub trait Told: Copy {
     // The reference model's answer.
     ghost told: { Self → trip.Answer };
 
-    // Writes it as bytes.
+    // Writes it as bytes. Room at a place is asked by each that writes an answer: an output holds many, one behind the other.
     fn put_told(self, out: &mut [u8], at: usize)
         requires { at + answer_length ≤ length out.old }
         ensures { out.new ≡ put out.old at (encode (told self)) };
@@ -26,8 +34,9 @@ pub trait Told: Copy {
 impl Told for i64 {
     ghost told = { trip.number };
 
+    #[tactic(auto, using(crate::proofs::Bytes::byte_field), unfolding(crate::specs::Answers::encode))]
     fn put_told(self, out: &mut [u8], at: usize) {
-        field::put::<u8>(out, at, 0);
+        field::put(out, at, Kind::Number as u8);
         field::put(out, at + 1, self);
     }
 }
@@ -36,19 +45,20 @@ impl Told for Verdict {
     ghost told = { trip.judged };
 
     fn put_told(self, out: &mut [u8], at: usize) {
-        field::put::<u8>(out, at, 2);
+        field::put(out, at, Kind::Verdict as u8);
         field::put(out, at + 1, self.broken);
-        field::put(out, at + 5, model::bit(self.exceeded) as u8);
-        field::put_le(out, at + 6, 3, u32::from(self.finding) as u64);
+        field::put(out, at + 5, u8::from(self.exceeded));
+        field::put_le(out, at + 6, 3, u64::from(u32::from(self.finding)));
     }
 }
 
-// A refusal by its number, which may be any.
+// A refusal by its number, which may be any: a `Refusal` would ask more of callers.
+#[tactic(auto, using(crate::proofs::Bytes::byte_field), unfolding(crate::specs::Answers::encode))]
 pub fn put_refusal(out: &mut [u8], at: usize, number: u32)
     requires { at + answer_length ≤ length out.old }
     ensures { out.new ≡ put out.old at (encode (trip.refused number)) }
 {
-    field::put::<u8>(out, at, 1);
+    field::put(out, at, Kind::Refusal as u8);
     field::put(out, at + 1, u64::from(number));
 }
 

@@ -1,14 +1,16 @@
 -- What the functions on the area's parts do, by the parts lying apart.
 --     lent_changed     part k was lent and came back
+--     last_part, lent_last   the last part; it was lent as an array and came back
 --     numbered         a number of the head is new
 --     number_is        a number of the head, as read
 --     head_number      the numbers of the head in the code's order
 -- Assumes nothing.
 use Rattle.std.specs.Prelude.{List, ◌++◌, ◌≡◌, ℕ, ◌+◌, ◌-◌, ◌*◌, ◌^◌, ◌<◌, length, take, drop}
-use Rattle.std.proofs.Common.{refl, arith, sym, ap, subst, ◌∙◌}
+use Rattle.std.proofs.Common.{refl, arith, sym, ap, subst, ◌∙◌, length-drop, append-nil}
+use Rattle.std.proofs.lemmas.List.{take_all, drop_all}
 use Rattle.model.specs.Numbers.{le_val, le_at, le_bytes}
 use Rattle.field.specs.Le.{put_le, bytes_length_lem, val_bytes}
-use Rattle.field.specs.Part.{part, put}
+use Rattle.field.specs.Part.{part, put, lent}
 use Rattle.area.specs.Layout.{area_len, number_len, head_numbers, lengths, place, size, parts_of, with}
 use denote.Enum.Declared.{tag_of}
 use Rattle.area.specs.contracts.Head.{the_type}
@@ -23,6 +25,24 @@ module _ (xs : List ℕ) (whole : length xs ≡ area_len) (k : ℕ) (a e : ℕ) 
   pub lent_changed : (R : List ℕ → List ℕ → Type 0) (ys : List ℕ) → length ys ≡ length (take (e - a) (drop a xs)) → R (take (e - a) (drop a xs)) ys
       → Changed k R (parts_of xs) (parts_of (take a xs ++ (ys ++ drop (e - a) (drop a xs))))
   lent_changed R ys l r = changed k R ys (parts_of xs) _ (part_lent xs whole k ys a e start end l) (subst (λ (l : List ℕ). R l ys) (lent_part xs whole k a e start end) r)
+
+-- the last part, of n bytes
+module _ (xs : List ℕ) (whole : length xs ≡ area_len) (k n : ℕ) (long : n ≡ size k) (last : place k + n ≡ area_len) where
+  start : length xs - n ≡ place k
+  start = omega arith
+
+  pub last_part : drop (length xs - n) xs ≡ parts_of xs k
+  unfolding parts_of part
+  last_part = rw start (sym (take_all (size k) (drop (place k) xs) (omega (arith, length-drop (place k) xs))))
+
+  -- it was lent as an array, and came back as ys
+  pub lent_last : (R : List ℕ → List ℕ → Type 0) {old ys : List ℕ} → old ≡ drop (length xs - n) xs → length ys ≡ n → R old ys
+      → Changed k R (parts_of xs) (parts_of (take (length xs - n) xs ++ ys))
+  lent_last R {old} {ys} same l r =
+      let none : ys ++ drop n (drop (place k) xs) ≡ ys = rw (drop_all n (drop (place k) xs) (omega (arith, length-drop (place k) xs))) (append-nil ys) in
+      let is : take (length xs - n) xs ++ ys ≡ put xs (place k) ys =
+      ap (λ (a : ℕ). take a xs ++ ys) start ∙ sym (ap (λ (t : List ℕ). take (place k) xs ++ t) none) ∙ lent xs (place k) n ys (omega arith) l in
+      changed k R ys (parts_of xs) _ (ap parts_of is ∙ part_put xs whole k ys (l ∙ long)) (subst (λ (b : List ℕ). R b ys) (same ∙ last_part) r)
 
 number_place_lem : (k : ℕ) → k < head_numbers → (place k ≡ number_len * k) × (size k ≡ number_len)
 unfolding place size lengths

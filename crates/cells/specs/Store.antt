@@ -2,14 +2,14 @@
 --     Storable                      the values that a cell can hold
 --     value_at, values_of             the value in a cell; the values in the first m cells
 --     values_at, values_more        the value in a cell is that of the list; one cell more
---     values_set                    a cell is written
+--     values_set, values_alone      a cell is written; the first m values are those of the bytes of m cells
 --     Put, Moved                    what `put` and `move_hole` do to a store, however many cells are read; hole_last is in proofs/Store
 -- Assumes nothing.
-use Rattle.std.specs.Prelude.{◌≡◌, refl, List, [], ◌∷◌, ◌++◌, ℕ, suc, ◌*◌, ◌^◌, ◌≤◌, ◌<◌, ℤ, length, get_or, set}
-use Rattle.std.proofs.Common.{ap, ◌∙◌}
+use Rattle.std.specs.Prelude.{◌≡◌, refl, List, [], ◌∷◌, ◌++◌, ℕ, zero, suc, ◌+◌, ◌*◌, ◌/◌, ◌^◌, ◌≤◌, ◌<◌, ℤ, length, get_or, set, take}
+use Rattle.std.proofs.Common.{ap, ◌∙◌, arith, zero-add, length-take-le}
 use Rattle.std.specs.Int.Signed.{mag}
 use Rattle.model.specs.Numbers.{le_val, le_at, le_bytes, signed}
-use Rattle.field.specs.Part.{part}
+use Rattle.field.specs.Part.{part, part_part}
 use Rattle.field.specs.Le.{put_le, bytes_length_lem, val_bytes}
 use Rattle.field.specs.Cells.{cells, cells_length, cells_at, cells_set}
 use Rattle.laws.specs.Lists.{without}
@@ -40,6 +40,23 @@ pub values_set : (s : List ℕ) (m i k : ℕ) → i < m → 4 * m ≤ length s �
 unfolding values_of put_le
 values_set s m i k h l b =
     cells_set 4 (λ b. signed 4 (le_val b)) s m i (le_bytes 4 k) h l (bytes_length_lem 4 k) ∙ ap (λ (n : ℕ). set (values_of s m) i (signed 4 n)) (val_bytes 4 k b)
+
+-- the values of the first cells stand in the first bytes
+part_front : (s : List ℕ) (a b n : ℕ) → b + n ≤ a → part (take a s) b n ≡ part s b n
+unfolding part
+part_front s a b n h = rw zero-add at (part_part s 0 a b n h)
+
+values_front : (s : List ℕ) (m a : ℕ) → 4 * m ≤ a → values_of (take a s) m ≡ values_of s m
+unfolding values_of cells
+values_front s zero a h = refl
+values_front s (suc m) a h = rw (values_front s m a (omega arith), part_front s a (4 * m) 4 (omega arith)) refl
+
+-- so the bytes of m cells, with the number of cells by their length, have the first m values
+pub values_alone : (s : List ℕ) (m : ℕ) → 4 * m ≤ length s
+    → (length (take (4 * m) s) / 4 ≡ m) × (values_of (take (4 * m) s) (length (take (4 * m) s) / 4) ≡ values_of s m)
+values_alone s m h =
+    let n : length (take (4 * m) s) / 4 ≡ m = omega (arith, length-take-le (4 * m) s h) in
+    (n, rw n (values_front s m (4 * m) (omega arith)))
 
 -- from the store s to t: z has gone into cell i
 abbrev pub Put : ℕ → ℤ → List ℕ → List ℕ → Type 0

@@ -1,27 +1,27 @@
 // Values in cells of four bytes, as i32: read, written, moved by one cell, and the percentile of values in order.
 #![tactic(auto)]
 
-ghost use Rattle.std.specs.Prelude.{◌≡◌, ◌+◌, ◌-◌, ◌*◌, ◌≤◌, ◌<◌, pos, length, get_or};
+ghost use Rattle.std.specs.Prelude.{◌≡◌, ◌+◌, ◌-◌, ◌*◌, ◌/◌, ◌≤◌, ◌<◌, pos, length, get_or};
 ghost use Rattle.model.specs.Records.{max_width};
 ghost use Rattle.slide.specs.Percentile.{rank};
-ghost use Rattle.cells.specs.Store.{Storable, Moved, Put, value_at, values_of};
+ghost use Rattle.cells.specs.Store.{Moved, Put, value_at, values_of};
 
-// The value in cell i.
+// The value in cell i. Room for its cells is asked by each function: a store is a slice of any length.
 #[tactic(auto, unfolding(crate::specs::Store::value_at))]
-pub fn at(store: &[u8], i: usize) -> i64
+pub fn at(store: &[u8], i: usize) -> i32
     requires { 4 * i + 4 ≤ length store.now }
-    ensures { (result ≡ value_at store.now i) × Storable result }
+    ensures { result ≡ value_at store.now i }
 {
-    i64::from(field::get::<i32>(store, 4 * i))
+    field::get(store, 4 * i)
 }
 
 // z goes into cell i.
 #[tactic(auto, using(crate::proofs::Hole::written))]
-pub fn put(store: &mut [u8], i: usize, z: i64)
-    requires { (4 * i + 4 ≤ length store.old) × Storable z }
+pub fn put(store: &mut [u8], i: usize, z: i32)
+    requires { 4 * i + 4 ≤ length store.old }
     ensures { Put i z store.old store.new }
 {
-    field::put(store, 4 * i, z as i32);
+    field::put(store, 4 * i, z);
 }
 
 // The hole at p goes to q: each value on the way moves by one cell towards p. One of the two loops has no turn.
@@ -40,11 +40,12 @@ pub fn move_hole(store: &mut [u8], p: usize, q: usize)
     }
 }
 
-// The 95th percentile of the first m values, which are in order.
+// The 95th percentile of the values, which are in order.
 #[tactic(auto, using(crate::specs::Store::values_at))]
-pub fn percentile(store: &[u8], m: usize) -> i64
-    requires { (0 < m) × (m ≤ max_width) × (4 * m ≤ length store.now) }
-    ensures { result ≡ get_or (values_of store.now m) (rank m) (pos 0) }
+pub fn percentile(values: &[u8]) -> i32
+    requires { (4 ≤ length values.now) × (length values.now / 4 ≤ max_width) }
+    ensures { result ≡ get_or (values_of values.now (length values.now / 4)) (rank (length values.now / 4)) (pos 0) }
 {
-    at(store, (95 * m + 99) / 100 - 1)
+    let m = values.len() / 4;
+    at(values, (95 * m + 99) / 100 - 1)
 }

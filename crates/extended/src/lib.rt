@@ -9,7 +9,8 @@ ghost use Rattle.extended.specs.Bounds.{most_weighted};
 
 use model::{HIGHEST_ALTITUDE, HIGHEST_TEMPERATURE, LOWEST_TEMPERATURE, Sample};
 
-// Whether the temperature makes a sample extended, whatever the altitude is.
+// Whether the temperature makes a sample extended, whatever the altitude is. Two comparisons a range: `contains` of a range says no more.
+#[tactic(auto, unfolding(model::specs::Verdicts::extended_temperature, model::specs::Numbers::within))]
 fn by_temperature(t: u16) -> bool
     ensures { result ≡ extended_temperature t }
 {
@@ -19,21 +20,22 @@ fn by_temperature(t: u16) -> bool
 }
 
 // Whether the altitude does, whatever the temperature is.
+#[tactic(auto, unfolding(model::specs::Verdicts::extended_altitude))]
 fn by_altitude(a: i16) -> bool
     ensures { result ≡ extended_altitude a }
 {
     (700 < a) & (a <= HIGHEST_ALTITUDE)
 }
 
-// 1 where one condition is met, or both; 0 where none is.
+// 1 where one condition is met, or both; 0 where none is. A number and no bool: that both do not count twice is what it promises.
 fn once(temperature: bool, altitude: bool) -> u32
     ensures { (result ≡ bit (temperature || altitude)) × (result ≤ 1) }
 {
-    let met = model::bit(temperature) + model::bit(altitude);
-    if 0 < met { 1 } else { 0 }
+    model::bit(temperature | altitude)
 }
 
 // How often a sample counts in extended U: once, or not at all.
+#[tactic(auto, unfolding(model::specs::Verdicts::is_extended))]
 pub fn times(s: Sample) -> u32
     ensures { (result ≡ bit (is_extended s)) × (result ≤ 1) }
 {

@@ -1,6 +1,5 @@
 -- What a function code was read as tells of it. Assumes nothing.
 use Rattle.std.specs.Prelude.{◌≡◌, refl, Bool, true, false, cond, ℕ, leb, get_or, Ok, Err}
-use Rattle.std.proofs.Common.{◌∙◌}
 use Rattle.model.specs.declared.Function.{Function}
 use Rattle.model.specs.declared.Function.TheVariants.{Count}
 use Rattle.model.specs.declared.Refusal.{Refusal}

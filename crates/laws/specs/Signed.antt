@@ -10,11 +10,11 @@
 --     widened_fits, widened_is         an i32 as an i64
 --     within_positive, size_within     a number from zero to a bound; within_plus: the sum of two
 -- Assumes nothing.
-use Rattle.std.specs.Prelude.{Bool, true, false, cond, ◌≡◌, refl, ℕ, zero, suc, ◌+◌, ◌-◌, ◌*◌, ◌^◌, ◌≤◌, ◌<◌, T, leb, ltb, ℤ, pos, negsuc, neg_ℤ, nat_abs, ◌+ℤ◌, ◌-ℤ◌, ◌*ℤ◌}
+use Rattle.std.specs.Prelude.{Bool, true, false, cond, ◌≡◌, refl, ℕ, zero, suc, ◌+◌, ◌-◌, ◌*◌, ◌^◌, ◌≤◌, ◌<◌, leb, ltb, ℤ, pos, negsuc, neg_ℤ, nat_abs, ◌+ℤ◌, ◌-ℤ◌, ◌*ℤ◌}
 use Rattle.std.proofs.lemmas.Bool.{false≢true}
-use Rattle.std.proofs.Common.{ap, ap₂, subst, ◌∙◌, div-le_self, mul-le-mul, mul-le-mul_left, arith, leb-true, le-leb, le-ltb, ltb-true}
+use Rattle.std.proofs.Common.{ap₂, ◌∙◌, mul-le-mul, mul-le-mul_left, arith, leb-true, le-leb, ltb-true}
 use Rattle.std.proofs.Math.IntN.{sub_ℕ}
-use Rattle.std.specs.Int.Signed.{le_z, lt_z, mag, quot_z}
+use Rattle.std.specs.Int.Signed.{le_z, mag}
 use Rattle.std.specs.Int.{Width, w32, w64, int_div_euclid}
 use mir.Val.{SFits, of_z, to_z, hbits}
 use Rattle.std.proofs.lemmas.Int.{to_z-of_z, to_z_pos}

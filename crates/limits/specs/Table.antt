@@ -52,12 +52,6 @@ row_lines Urban = refl
 row_lines Rural = refl
 row_lines Motorway = refl
 
--- a fact about a class, shown for each of the three
-pub by_class : {P : Type 0} (c : SpeedClass) → (c ≡ Urban → P) → (c ≡ Rural → P) → (c ≡ Motorway → P) → P
-by_class Urban u r m = u refl
-by_class Rural u r m = r refl
-by_class Motorway u r m = m refl
-
 abbrev pub upper : SpeedClass → ℕ
 upper c = tenths (row_of c).upper
 

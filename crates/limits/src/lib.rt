@@ -9,9 +9,11 @@ ghost use Rattle.limits.specs.Line.{line_of, limit_of};
 ghost use Rattle.limits.specs.Bounds.{BoundedClass};
 
 mod per_class;
+mod trip_tally;
 
 use model::{ClassTally, Distance, Speed, SpeedClass};
 pub use per_class::PerClass;
+pub use trip_tally::TripTally;
 
 // The two percentile lines: up to a mean of 74.6 km/h, and above it.
 #[derive(Clone, Copy)]
@@ -85,6 +87,7 @@ pub struct PowerLimit {
     pub factor: u64,
 }
 
+#[tactic(auto, unfolding(crate::specs::Table::row_of))]
 fn row_of(c: SpeedClass) -> Row
     ensures { result ≡ row_of c }
 {
@@ -102,7 +105,7 @@ pub fn upper(c: SpeedClass) -> Speed
 pub fn travelled(v: Speed) -> Distance
     ensures { (result ≡ travelled v) × (units result < 2 ^ 16) }
 {
-    Distance(v.0 as u64)
+    Distance(u64::from(v.0))
 }
 
 // The share of a class in the distance.
@@ -113,12 +116,15 @@ pub fn share_of(c: SpeedClass) -> Share
 }
 
 // The coefficients of a percentile line of a class.
+#[tactic(auto, using(crate::specs::Table::row_lines, crate::specs::Line::most), unfolding(crate::specs::Table::coefficients_of))]
 fn coefficients_of(c: SpeedClass, line: Line) -> Coefficients
     ensures { (result ≡ coefficients_of c line) × Most result }
 {
     row_of(c).lines[line as usize]
 }
 
+// Compared by their numbers, as everywhere: most comparisons are with products, and an order derived for `Speed` would serve this one and the walk's.
+#[tactic(auto, unfolding(crate::specs::Table::row_of, crate::specs::Class::class_of))]
 fn class_of(v: Speed) -> SpeedClass
     ensures { result ≡ class_of v }
 {
@@ -134,12 +140,14 @@ fn class_of(v: Speed) -> SpeedClass
 }
 
 // Whether a speed is of a class.
+#[tactic(auto, unfolding(crate::specs::Class::same_class))]
 pub fn in_class(c: SpeedClass, v: Speed) -> bool
     ensures { result ≡ same_class c (class_of v) }
 {
     c == class_of(v)
 }
 
+#[tactic(auto, using(crate::specs::Line::line_low, crate::specs::Line::line_high))]
 fn line_of(samples: u64, distance: Distance) -> Line
     requires { samples ≤ max_samples }
     ensures { result ≡ line_of samples (units distance) }
@@ -153,6 +161,7 @@ fn line_of(samples: u64, distance: Distance) -> Line
 
 // The right side of rules 18 to 20 of a class with N samples and distance S, and beside it the left side's factor × N. No other function reckons
 // either; a verdict asks for them once for each class, and no loop does (tests/limit_side.py).
+#[tactic(auto, using(crate::specs::Line::power_factor_lem, crate::specs::Line::limit_side_lem), unfolding(crate::specs::Line::limit_of))]
 pub fn limit_of(c: SpeedClass, t: ClassTally) -> PowerLimit
     requires { BoundedClass t }
     ensures { result ≡ limit_of t }

@@ -1,4 +1,5 @@
-// A value for each class of speed.
+// A value for each class of speed. The three class tallies of a `Tally` stay fields of their own: of the ten functions that go through the
+// three, seven add them up, join tests of them or give each a bit or a place of its own, and would say `t.classes.urban` for `t.urban`.
 #![tactic(auto)]
 
 ghost use Rattle.std.specs.Prelude.{◌≡◌};

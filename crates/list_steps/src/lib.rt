@@ -2,13 +2,13 @@
 #![tactic(auto)]
 
 ghost use Rattle.std.specs.Prelude.{◌≡◌, ◌<◌, length};
-ghost use Rattle.model.specs.Records.{max_windows};
 ghost use Rattle.slide.specs.Undisplaced.{pops, aged};
-ghost use Rattle.slots.specs.Layout.{part_len, list_capacity};
+ghost use Rattle.slots.specs.Layout.{list_capacity};
 ghost use Rattle.lists.specs.Lists.{list_of, Fit};
 ghost use Rattle.list_steps.specs.Steps.{displaces_in, Became, ListStepped};
 
 use lists::End;
+use slots::{Part, Slot};
 
 // The value of its list's entries that a window reads: two of the six functions keep a list.
 #[derive(Clone, Copy)]
@@ -18,9 +18,8 @@ pub enum Extreme {
 }
 
 // Whether a new value displaces the entry of a second; an equal one does.
-fn displaced(part: &[u8], k: usize, extreme: Extreme, new: i64, second: u16) -> bool
-    requires { (length part.now ≡ part_len) × (k < max_windows) }
-    ensures { result ≡ displaces_in extreme new part.now k second }
+fn displaced(part: &Part, k: Slot, extreme: Extreme, new: i64, second: u16) -> bool
+    ensures { result ≡ displaces_in extreme new part.now k.number second }
 {
     let old = slots::value(part, k, second);
     match extreme {
@@ -29,10 +28,10 @@ fn displaced(part: &[u8], k: usize, extreme: Extreme, new: i64, second: u16) -> 
     }
 }
 
-// The first entry goes where a window of width w leaves it behind as this second comes.
-fn age(part: &mut [u8], k: usize, w: u16, second: u16)
-    requires { Fit part.old k }
-    ensures { Became k part.old part.new (aged w second (list_of part.old k)) 0 }
+// The first entry goes where a window of width w leaves it behind as this second comes. `Fit` is a clause, as at lists::append.
+fn age(part: &mut Part, k: Slot, w: u16, second: u16)
+    requires { Fit part.old k.number }
+    ensures { Became k.number part.old part.new (aged w second (list_of part.old k.number)) 0 }
 {
     if second < w {
         return;
@@ -47,9 +46,9 @@ fn age(part: &mut [u8], k: usize, w: u16, second: u16)
 }
 
 // Those at the back that the new value displaces go.
-fn pop(part: &mut [u8], k: usize, extreme: Extreme, new: i64)
-    requires { Fit part.old k }
-    ensures { Became k part.old part.new (pops (displaces_in extreme new part.old k) (list_of part.old k)) 0 }
+fn pop(part: &mut Part, k: Slot, extreme: Extreme, new: i64)
+    requires { Fit part.old k.number }
+    ensures { Became k.number part.old part.new (pops (displaces_in extreme new part.old k.number) (list_of part.old k.number)) 0 }
 {
     for last in (0..slots::number(part, k)).rev() {
         let second = lists::entry(part, k, last);
@@ -61,9 +60,9 @@ fn pop(part: &mut [u8], k: usize, extreme: Extreme, new: i64)
 }
 
 // One sample more for a list: its second, and its value where it qualifies.
-pub fn step_list(part: &mut [u8], k: usize, extreme: Extreme, w: u16, second: u16, new: Option<i64>)
-    requires { (Fit part.old k) × (length (aged w second (list_of part.old k)) < list_capacity) }
-    ensures { ListStepped k w second extreme new part.old part.new }
+pub fn step_list(part: &mut Part, k: Slot, extreme: Extreme, w: u16, second: u16, new: Option<i64>)
+    requires { (Fit part.old k.number) × (length (aged w second (list_of part.old k.number)) < list_capacity) }
+    ensures { ListStepped k.number w second extreme new part.old part.new }
 {
     age(part, k, w, second);
     if let Some(z) = new {

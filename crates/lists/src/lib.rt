@@ -1,45 +1,42 @@
 // The lists of held entries, one in each slot of the windows' part, and the count of the moves that are made in them.
 #![tactic(auto)]
 
-ghost use Rattle.std.specs.Prelude.{◌≡◌, [], ◌∷◌, ◌++◌, ◌+◌, ◌*◌, ◌%◌, ◌^◌, ◌<◌, ◌≤◌, length, get_or};
+ghost use Rattle.std.specs.Prelude.{◌≡◌, [], ◌∷◌, ◌++◌, ◌+◌, ◌*◌, ◌%◌, ◌^◌, ◌<◌, ◌≤◌, get_or};
 ghost use Rattle.model.specs.Records.{max_windows};
-ghost use Rattle.slots.specs.Layout.{part_len, list_capacity, moves_of, number_of};
+ghost use Rattle.slots.specs.Layout.{list_capacity, moves_of, number_of};
 ghost use Rattle.lists.specs.Effects.{Recounted, Emptied, Cleared};
 ghost use Rattle.lists.specs.Lists.{list_of, Ready, Removable, Moved, shorter, next_first, Fitness};
 
 use model::MAX_WINDOWS;
-use slots::{FIRST, LIST_CAPACITY, MOVES, NUMBER, STORE};
+use slots::{FIRST, LIST_CAPACITY, MOVES, NUMBER, Part, STORE, Slot};
 
 // Slot k's list becomes empty.
-fn clear_list(part: &mut [u8], k: usize)
-    requires { (length part.old ≡ part_len) × (k < max_windows) }
-    ensures { Emptied k part.old part.new }
+fn clear_list(part: &mut Part, k: Slot)
+    ensures { Emptied k.number part.old part.new }
 {
     slots::put::<u16>(part, k, FIRST, 0);
     slots::put::<u16>(part, k, NUMBER, 0);
 }
 
-// Every list becomes empty: only clear does this.
-pub fn clear_lists(part: &mut [u8])
-    requires { length part.old ≡ part_len }
+// Every list becomes empty: only clear does this. `as`: there is no `usize::from` of a u32.
+pub fn clear_lists(part: &mut Part)
     ensures { Cleared max_windows part.old part.new }
 {
     for k in 0..MAX_WINDOWS as usize {
-        clear_list(part, k);
+        clear_list(part, Slot { number: k });
     }
 }
 
 // The count of moves starts at 0: only clear does this.
-pub fn clear_moves(part: &mut [u8])
-    requires { length part.old ≡ part_len }
+pub fn clear_moves(part: &mut Part)
     ensures { Recounted 0 part.old part.new }
 {
     field::put::<u64>(part, MOVES, 0);
 }
 
 // One move more.
-fn count_move(part: &mut [u8])
-    requires { (length part.old ≡ part_len) × (moves_of part.old + 1 < 2 ^ 64) }
+fn count_move(part: &mut Part)
+    requires { moves_of part.old + 1 < 2 ^ 64 }
     ensures { Recounted (moves_of part.old + 1) part.old part.new }
 {
     let n = slots::moves(part);
@@ -59,9 +56,10 @@ fn wrap(place: u16) -> u16
 }
 
 // Appends one entry at the back of slot k's list: clear apart, one of the two functions that write the lists.
-pub fn append(part: &mut [u8], k: usize, second: u16)
-    requires { (Ready part.old k) × (number_of part.old k < list_capacity) × (moves_of part.old + 1 < 2 ^ 64) }
-    ensures { Moved k part.old part.new (list_of part.old k ++ (second ∷ [])) }
+// `Ready`, and `Fit` above it, stay clauses: they are facts of lent bytes, which each of these functions changes.
+pub fn append(part: &mut Part, k: Slot, second: u16)
+    requires { (Ready part.old k.number) × (number_of part.old k.number < list_capacity) × (moves_of part.old + 1 < 2 ^ 64) }
+    ensures { Moved k.number part.old part.new (list_of part.old k.number ++ (second ∷ [])) }
 {
     let n = slots::number(part, k);
     let place = usize::from(wrap(slots::first(part, k) + n));
@@ -89,9 +87,9 @@ fn next_first(end: End, first: u16) -> u16
 }
 
 // Removes one entry at an end of slot k's list: the other of the two.
-pub fn remove(part: &mut [u8], k: usize, end: End)
-    requires { Removable part.old k }
-    ensures { Moved k part.old part.new (shorter end (list_of part.old k)) }
+pub fn remove(part: &mut Part, k: Slot, end: End)
+    requires { Removable part.old k.number }
+    ensures { Moved k.number part.old part.new (shorter end (list_of part.old k.number)) }
 {
     let n = slots::number(part, k);
     let f = next_first(end, slots::first(part, k));
@@ -102,9 +100,9 @@ pub fn remove(part: &mut [u8], k: usize, end: End)
 
 // Entry j of slot k's list.
 #[tactic(auto, using(crate::specs::Lists::entry_get))]
-pub fn entry(part: &[u8], k: usize, j: u16) -> u16
-    requires { (Ready part.now k) × (number_of part.now k ≤ list_capacity) × (j < number_of part.now k) }
-    ensures { result ≡ get_or (list_of part.now k) j 0 }
+pub fn entry(part: &Part, k: Slot, j: u16) -> u16
+    requires { (Ready part.now k.number) × (number_of part.now k.number ≤ list_capacity) × (j < number_of part.now k.number) }
+    ensures { result ≡ get_or (list_of part.now k.number) j 0 }
 {
     let place = usize::from(wrap(slots::first(part, k) + j));
     slots::get(part, k, STORE + 2 * place)
@@ -112,9 +110,8 @@ pub fn entry(part: &[u8], k: usize, j: u16) -> u16
 
 // Whether slot k's list may be used: any bytes are tested first.
 #[tactic(auto, using(crate::proofs::Answers::fitness))]
-pub fn fit(part: &[u8], k: usize) -> bool
-    requires { (length part.now ≡ part_len) × (k < max_windows) }
-    ensures { Fitness part.now k result }
+pub fn fit(part: &Part, k: Slot) -> bool
+    ensures { Fitness part.now k.number result }
 {
     let first_kept = slots::first(part, k) < LIST_CAPACITY;
     let number_kept = slots::number(part, k) <= LIST_CAPACITY;

@@ -1,22 +1,20 @@
 // What the windows read. Safe on any bytes: numbers are tested before they are used.
 #![tactic(auto)]
 
-ghost use Rattle.std.specs.Prelude.{◌≡◌, ◌<◌, length};
-ghost use Rattle.model.specs.Records.{max_windows};
-ghost use Rattle.slots.specs.Layout.{part_len, slot_of, code_in};
+ghost use Rattle.std.specs.Prelude.{◌≡◌};
+ghost use Rattle.slots.specs.Layout.{slot_of, code_in};
 ghost use Rattle.list_steps.specs.Steps.{extreme_code};
 ghost use Rattle.reading.specs.Read.{Reads};
 
 use list_steps::Extreme;
 use model::Function;
 use rolling::MOST_COUNT;
-use slots::{SLOT_LEN, STORE_LEN};
-use window::STORES;
+use slots::{Part, STORE, STORE_LEN, Slot};
 
 // The smallest or largest value: that of the first held entry.
-fn first_value(part: &[u8], k: usize, extreme: Extreme) -> Option<i64>
-    requires { (length part.now ≡ part_len) × (k < max_windows) × (code_in (slot_of part.now k) ≡ extreme_code extreme) }
-    ensures { Reads k part.now result }
+fn first_value(part: &Part, k: Slot, extreme: Extreme) -> Option<i64>
+    requires { code_in (slot_of part.now k.number) ≡ extreme_code extreme }
+    ensures { Reads k.number part.now result }
 {
     if !lists::fit(part, k) {
         return None;
@@ -28,21 +26,21 @@ fn first_value(part: &[u8], k: usize, extreme: Extreme) -> Option<i64>
     Some(slots::value(part, k, second))
 }
 
-// The sum by the count, rounded down.
-fn average(part: &[u8], k: usize) -> Option<i64>
-    requires { (length part.now ≡ part_len) × (k < max_windows) × (code_in (slot_of part.now k) ≡ 4) }
-    ensures { Reads k part.now result }
+// The sum by the count, rounded down. It begins as `percentile` does: a function for the test of the count would be longer than the two.
+fn average(part: &Part, k: Slot) -> Option<i64>
+    requires { code_in (slot_of part.now k.number) ≡ 4 }
+    ensures { Reads k.number part.now result }
 {
     let count = slots::count(part, k);
     if count == 0 {
         return None;
     }
-    Some(slots::sum(part, k).div_euclid(count as i64))
+    Some(slots::sum(part, k).div_euclid(i64::from(count)))
 }
 
-fn percentile(part: &[u8], k: usize) -> Option<i64>
-    requires { (length part.now ≡ part_len) × (k < max_windows) × (code_in (slot_of part.now k) ≡ 5) }
-    ensures { Reads k part.now result }
+fn percentile(part: &Part, k: Slot) -> Option<i64>
+    requires { code_in (slot_of part.now k.number) ≡ 5 }
+    ensures { Reads k.number part.now result }
 {
     let count = slots::count(part, k);
     if count == 0 {
@@ -51,17 +49,17 @@ fn percentile(part: &[u8], k: usize) -> Option<i64>
     if MOST_COUNT < count {
         return None;
     }
-    let at = STORES + SLOT_LEN * k;
-    Some(cells::percentile(&part[at..at + STORE_LEN], count as usize))
+    let at = k.place() + STORE;
+    let store = &part[at..at + STORE_LEN];
+    Some(i64::from(cells::percentile(&store[..4 * count as usize])))
 }
 
 // What window k reads; none where no sample in it qualifies.
-pub fn read(part: &[u8], k: usize) -> Option<i64>
-    requires { (length part.now ≡ part_len) × (k < max_windows) }
-    ensures { Reads k part.now result }
+pub fn read(part: &Part, k: Slot) -> Option<i64>
+    ensures { Reads k.number part.now result }
 {
     match Function::try_from(slots::code(part, k)) {
-        Ok(Function::Count) => Some(slots::count(part, k) as i64),
+        Ok(Function::Count) => Some(i64::from(slots::count(part, k))),
         Ok(Function::Sum) => Some(slots::sum(part, k)),
         Ok(Function::Smallest) => first_value(part, k, Extreme::Smallest),
         Ok(Function::Largest) => first_value(part, k, Extreme::Largest),

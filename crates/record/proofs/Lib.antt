@@ -1,2 +1,1 @@
 mod Tests
-mod Channels

@@ -32,6 +32,7 @@ pub struct Progress {
 }
 
 // Makes one call and writes its answer. A `match`, since the kinds are closed and each takes other arguments.
+#[tactic(auto, using(crate::proofs::Dispatch::called), unfolding(script::specs::Script::call_of))]
 fn perform(area: &mut [u8], call: Call, out: &mut [u8], at: usize)
     requires { at + answer_length ≤ length out.old }
     ensures { Called (made_call call.entry) area.old out.old at area.new out.new }

@@ -24,8 +24,8 @@ fn tell(rt: &(impl Eprint + Alloc), what: &str, name: &str, error: Error) {
 }
 
 // Writes a text to standard output.
-fn write_out(rt: &(impl Print + Eprint + Alloc), text: &str) {
-    if let Err(e) = rt.write_all(text.as_bytes()) {
+fn write_out(rt: &(impl Print + Eprint + Alloc), text: &[u8]) {
+    if let Err(e) = rt.write_all(text) {
         tell(rt, "output not written", "", e);
     }
 }
@@ -34,7 +34,7 @@ fn write_out(rt: &(impl Print + Eprint + Alloc), text: &str) {
 fn write_report(rt: &(impl Print + Eprint + Alloc), input: &[u8]) {
     let mut area = [0u8; area::AREA_LEN];
     let text = recording::report(&mut area, input);
-    write_out(rt, text.as_str());
+    write_out(rt, text.as_slice());
 }
 
 // Judges the drive that a reader gives; `name` is for messages.
@@ -57,7 +57,7 @@ fn judge_file(rt: &(impl Files + Print + Eprint + Alloc), name: &str) {
 fn help(rt: &(impl Print + Eprint + Alloc)) {
     write_out(
         rt,
-        "usage: report [FILE]
+        b"usage: report [FILE]
 Judges a recorded drive: reads sample records of 16 bytes, one for each second from 0 on, from FILE or else from standard input.
 It writes three lines:
   samples N           the samples taken

@@ -7,8 +7,9 @@ ghost use Rattle.slots.specs.Effects.{Totalled};
 ghost use Rattle.rolling.specs.Change.{Small, Roomy, Rolling, Rolls, most_sum, count_after, sum_after, Restocked};
 
 use model::{MAX_CHANNEL, MAX_WIDTH};
+use slots::{Part, Slot};
 
-// The most samples in a window's view, and a bound on the sum of their values, either way.
+// The most samples in a window's view, and a bound on the sum of their values, either way. `as`: `From` is not const.
 pub const MOST_COUNT: u32 = MAX_WIDTH as u32;
 
 const MOST_SUM: i64 = (MOST_COUNT as i64) * (MAX_CHANNEL as i64);
@@ -19,13 +20,15 @@ const LEAST_CELL: i64 = -2_147_483_648;
 const MOST_CELL: i64 = 2_147_483_647;
 
 // What one sample more changes in a window: the value that leaves it, and the value that enters, where there is one.
+// That both are `Small`, and that count m has room for them (`Roomy`), are no ghost fields: they would ask more of the callers of `rollable`, which
+// asks nothing.
 #[derive(Clone, Copy)]
 pub struct Change {
     pub leaves: Option<i64>,
     pub enters: Option<i64>,
 }
 
-// Whether count m and the sum may be rolled on by a change.
+// Whether count m and the sum may be rolled on by a change. Two comparisons a range: `contains` of a range says no more.
 pub fn rollable(m: u32, sum: i64, c: Change) -> bool
     ensures { Rolling m sum c result }
 {
@@ -56,9 +59,9 @@ fn sum_after(sum: i64, c: Change) -> i64
 }
 
 // Count and sum of slot k: what leaves is taken away, what enters is added.
-pub fn roll(part: &mut [u8], k: usize, m: u32, sum: i64, c: Change)
-    requires { Rolls part.old k m sum c }
-    ensures { Totalled k (count_after m c) (sum_after sum c) part.old part.new }
+pub fn roll(part: &mut Part, k: Slot, m: u32, sum: i64, c: Change)
+    requires { Rolls part.old k.number m sum c }
+    ensures { Totalled k.number (count_after m c) (sum_after sum c) part.old part.new }
 {
     let count = count_after(m, c);
     let total = sum_after(sum, c);
@@ -71,9 +74,9 @@ pub fn restock(store: &mut [u8], m: usize, c: Change)
     ensures { Restocked m c store.old store.new }
 {
     match (c.leaves, c.enters) {
-        (Some(old), Some(new)) => ordered::replace(store, m, old, new),
+        (Some(old), Some(new)) => ordered::replace(store, m, old, new as i32),
         (Some(old), None) => ordered::remove(store, m, old),
-        (None, Some(new)) => ordered::insert(store, m, new),
+        (None, Some(new)) => ordered::insert(store, m, new as i32),
         (None, None) => {}
     }
 }

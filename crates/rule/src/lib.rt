@@ -6,21 +6,24 @@ ghost use Rattle.model.specs.Numbers.{outside};
 ghost use Rattle.model.specs.Records.{units};
 ghost use Rattle.model.specs.Verdicts.{mask};
 ghost use Rattle.limits.specs.Table.{most_distance};
-ghost use Rattle.limits.specs.Bounds.{BoundedClass, BoundedTally};
+ghost use Rattle.limits.specs.Bounds.{BoundedClass};
 ghost use Rattle.rule.specs.TallyRules.{exceeded_by, distance_of, share_rule, length_rules, share_rules, distance_rules, urban_rules, count_rules, tally_rules, tally_rule_count};
 
+use limits::TripTally;
 use model::{ClassTally, Distance, SpeedClass, Tally};
 
 // 16 km, the least distance of a class.
 const LEAST_DISTANCE: u64 = 576000;
 
-// Three rules, the lowest bit first.
+// Three rules, the lowest bit first: no iterator, each has a weight of its own.
+#[tactic(auto, unfolding(model::specs::Verdicts::mask))]
 fn bits(a: bool, b: bool, c: bool) -> u32
     ensures { (result ≡ mask (a ∷ b ∷ c ∷ [])) × (result ≤ 7) }
 {
     model::bit(a) + 2 * model::bit(b) + 4 * model::bit(c)
 }
 
+#[tactic(auto, unfolding(model::specs::Numbers::outside))]
 fn outside(low: u64, high: u64, v: u64) -> bool
     ensures { result ≡ outside low high v }
 {
@@ -28,22 +31,23 @@ fn outside(low: u64, high: u64, v: u64) -> bool
 }
 
 // Rules 0 and 1.
+#[tactic(auto, unfolding(model::specs::Verdicts::mask))]
 fn length_rules(n: usize) -> u32
     ensures { (result ≡ mask (length_rules n)) × (result ≤ 3) }
 {
     model::bit(n < 5400) + 2 * model::bit(7200 < n)
 }
 
-fn total_distance(t: Tally) -> Distance
-    requires { BoundedTally t }
-    ensures { (result ≡ distance_of t) × (units result ≤ most_distance) }
+fn total_distance(t: TripTally) -> Distance
+    ensures { (result ≡ distance_of t.tally) × (units result ≤ most_distance) }
 {
-    let urban = t.urban.distance.0;
-    let rural = t.rural.distance.0;
-    let motorway = t.motorway.distance.0;
+    let urban = t.tally.urban.distance.0;
+    let rural = t.tally.rural.distance.0;
+    let motorway = t.tally.motorway.distance.0;
     Distance(urban + rural + motorway)
 }
 
+#[tactic(auto, using(limits::specs::Table::share_most))]
 fn share_outside(c: SpeedClass, t: ClassTally, total: Distance) -> bool
     requires { BoundedClass t × (units total ≤ most_distance) }
     ensures { result ≡ share_rule c t total }
@@ -57,15 +61,14 @@ fn share_outside(c: SpeedClass, t: ClassTally, total: Distance) -> bool
 }
 
 // Rules 2, 3 and 4.
-fn share_rules(t: Tally) -> u32
-    requires { BoundedTally t }
-    ensures { (result ≡ mask (share_rules t)) × (result ≤ 7) }
+fn share_rules(t: TripTally) -> u32
+    ensures { (result ≡ mask (share_rules t.tally)) × (result ≤ 7) }
 {
     let d = total_distance(t);
     bits(
-        share_outside(SpeedClass::Urban, t.urban, d),
-        share_outside(SpeedClass::Rural, t.rural, d),
-        share_outside(SpeedClass::Motorway, t.motorway, d),
+        share_outside(SpeedClass::Urban, t.tally.urban, d),
+        share_outside(SpeedClass::Rural, t.tally.rural, d),
+        share_outside(SpeedClass::Motorway, t.tally.motorway, d),
     )
 }
 
@@ -81,50 +84,49 @@ fn distance_rules(t: Tally) -> u32
 }
 
 // Rules 8, 9 and 10.
-fn urban_rules(t: Tally) -> u32
-    requires { BoundedTally t }
-    ensures { (result ≡ mask (urban_rules t)) × (result ≤ 7) }
+fn urban_rules(t: TripTally) -> u32
+    ensures { (result ≡ mask (urban_rules t.tally)) × (result ≤ 7) }
 {
-    let n = t.urban.samples;
+    let n = t.tally.urban.samples;
     bits(
-        outside(6 * n, 30 * n, 100 * t.stops),
-        outside(150 * n, 400 * n, t.urban.distance.0),
-        t.over100 < 300,
+        outside(6 * n, 30 * n, 100 * t.tally.stops),
+        outside(150 * n, 400 * n, t.tally.urban.distance.0),
+        t.tally.over100 < 300,
     )
 }
 
 // Rules 11 to 14.
-fn count_rules(t: Tally) -> u32
-    requires { BoundedTally t }
-    ensures { (result ≡ mask (count_rules t)) × (result ≤ 15) }
+#[tactic(auto, unfolding(model::specs::Verdicts::mask))]
+fn count_rules(t: TripTally) -> u32
+    ensures { (result ≡ mask (count_rules t.tally)) × (result ≤ 15) }
 {
     bits(
-        0 < t.over160,
-        3 * t.motorway.samples < 100 * t.over145,
-        0 < t.temperature,
-    ) + 8 * model::bit(0 < t.altitude)
+        0 < t.tally.over160,
+        3 * t.tally.motorway.samples < 100 * t.tally.over145,
+        0 < t.tally.temperature,
+    ) + 8 * model::bit(0 < t.tally.altitude)
 }
 
 // Rules 0 to 14 of n samples with this tally, bit k for rule k.
-pub fn tally_rules(n: usize, t: Tally) -> u32
-    requires { BoundedTally t }
-    ensures { (result ≡ mask (tally_rules n t)) × (result < 2 ^ tally_rule_count) }
+#[tactic(auto, unfolding(model::specs::Verdicts::mask, crate::specs::TallyRules::tally_rules))]
+pub fn tally_rules(n: usize, t: TripTally) -> u32
+    ensures { (result ≡ mask (tally_rules n t.tally)) × (result < 2 ^ tally_rule_count) }
 {
     length_rules(n)
         + 4 * share_rules(t)
-        + 32 * distance_rules(t)
+        + 32 * distance_rules(t.tally)
         + 256 * urban_rules(t)
         + 2048 * count_rules(t)
 }
 
 // NOx above 80 mg/km, that of extended samples at five eighths, without rounding.
-pub fn exceeded(t: Tally) -> bool
-    requires { BoundedTally t }
-    ensures { result ≡ exceeded_by t }
+#[tactic(auto, using(std::proofs::lemmas::Int::ints), unfolding(model::specs::Verdicts::exceeds_limit))]
+pub fn exceeded(t: TripTally) -> bool
+    ensures { result ≡ exceeded_by t.tally }
 {
     let d = total_distance(t);
     if d.0 == 0 {
         return false;
     }
-    ((640000 * d.0) as i64) < 1586 * extended::weighted(t.nox, t.extended)
+    ((640000 * d.0) as i64) < 1586 * extended::weighted(t.tally.nox, t.tally.extended)
 }

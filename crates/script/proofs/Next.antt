@@ -2,6 +2,8 @@
 use Rattle.std.specs.Prelude.{◌≡◌, true, false, List, Result, ℕ, ◌^◌, ◌≤◌, ◌<◌, min, length, get_or, take, drop}
 use Rattle.std.proofs.Common.{ap, ◌∙◌, arith, length-take, length-drop, take_all, drop-drop, get_or-take}
 use Rattle.std.proofs.lemmas.List.{drop-take, take_min}
+use mir.Syntax.{w32}
+use mir.Val.{Fits}
 use native.Mathlib.Nat.{min_comm, pow-le-pow_right}
 use borrow.Author.Tests.{le-leb, lt-leb}
 use Rattle.model.specs.Numbers.{le_val, le_at}
@@ -38,5 +40,5 @@ pub number_of_first : (bytes : List ℕ) (n : ℕ) → n ≡ min (length bytes) 
 unfolding le_at window_number
 number_of_first bytes n e = rw (e, min_comm) (ap le_val (take_min 4 bytes))
 
-pub below_four : {n v : ℕ} → n ≤ 4 → v < 256 ^ n → v < 2 ^ 32
-below_four {n} {v} h k = omega (arith, pow-le-pow_right {n = 256} (omega arith) {i = n} {j = 4} (omega arith))
+pub fits_four : (bytes : List ℕ) (n v : ℕ) → n ≡ min (length bytes) 4 → v < 256 ^ n → Fits w32 v
+fits_four bytes n v e k = record { fits = omega (arith, pow-le-pow_right {n = 256} (omega arith) {i = n} {j = 4} (omega arith)) }

@@ -44,6 +44,7 @@ impl<'a> Iterator for Calls<'a> {
 
     ghost remaining = { λ s. at_most (length (rest_of s)) };
 
+    #[tactic(auto, using(crate::proofs::Next::cut_off))]
     fn next(&mut self) -> Option<Result<Call<'a>, UnknownKind>> {
         let (head, behind) = self.rest.split_at_checked(HEAD_LEN)?;
         let length = field::get::<u64>(head, 1) as usize;
@@ -62,6 +63,7 @@ impl<'a> Calls<'a> {
 }
 
 // The window that a call reads. Bytes past the fourth do not count.
+#[tactic(auto, using(crate::proofs::Next::number_of_first, crate::proofs::Next::fits_four))]
 pub fn window_number(bytes: &[u8]) -> u32
     ensures { result ≡ window_number bytes.now }
 {

@@ -2,6 +2,7 @@
 --     place_of                       how many come before it
 --     Sought, sought_by, not_less     what a search of a store looks for, how code hands it on, and what it asks of a cell
 --     Placed, Spanned               what it finds: the place; places of which it is one
+--     placed_front                  the place among the values of the first cells
 --     place_probe                   in a list in order each value tells on which side of it the place is
 --     place_insert                  there the value goes in
 --     place_found, place_remove     where the value is one of the list, it stands there, and goes from there
@@ -12,7 +13,7 @@ use Rattle.std.proofs.Math.Path.{refl, sym}
 use Rattle.std.proofs.Common.{◌∙◌, inl, inr, true≢false, le-leb, le-ltb, lt-ltb}
 use mathlib.Core.List.{List, [], ◌∷◌, ◌++◌}
 use Rattle.std.proofs.Math.Bool.{true, false}
-use Prim.Native.Nat.{ℕ, zero, suc, ◌+◌, ◌^◌, ◌≤◌, ◌<◌}
+use Prim.Native.Nat.{ℕ, zero, suc, ◌+◌, ◌*◌, ◌/◌, ◌^◌, ◌≤◌, ◌<◌}
 use native.Mathlib.Omega.{arith}
 use Rattle.std.proofs.lemmas.Bool.{lt-leb}
 use Rattle.std.proofs.Math.Dec.{leb, leb-suc-suc}
@@ -22,7 +23,7 @@ use Rattle.model.specs.Numbers.{bit}
 use Rattle.laws.specs.Lists.{In, All, all_map, all_at, without}
 use Rattle.laws.specs.Order.{le_z_total, le_z_trans, le_z_anti, le_z_refl}
 use Rattle.slide.specs.Ordered.{Least, Sorted, insert, remove_one, insert_at, remove_at}
-use Rattle.cells.specs.Store.{Storable, value_at, values_of}
+use Rattle.cells.specs.Store.{Storable, value_at, values_of, values_alone}
 
 -- how many come before, where n of the later ones do
 abbrev before : Bool → ℕ → ℕ
@@ -56,6 +57,12 @@ not_less v s i = bit (le_z v (value_at s i))
 pub record Placed (v : ℤ) (s : List ℕ) (m p : ℕ) : Type 0 where
   pub within : p ≤ m
   pub place : Sorted (values_of s m) → p ≡ place_of v (values_of s m)
+
+-- the place among the values of the first m cells, read alone
+pub placed_front : (v : ℤ) (s : List ℕ) (m p : ℕ) → 4 * m ≤ length s → Placed v (take (4 * m) s) (length (take (4 * m) s) / 4) p → Placed v s m p
+placed_front v s m p h r =
+    let e = values_alone s m h in
+    record { within = omega (arith, r.within, e.0); place = λ w. rw e.1 at (r.place (rw e.1 w)) }
 
 -- the place of v among the first m values is one of lo to lo + len
 pub record Spanned (v : ℤ) (s : List ℕ) (m lo len : ℕ) : Type 0 where

@@ -3,7 +3,6 @@
 --     front_of, record_of     the expressions and the ring, which stand under one equation, and the record in the place of a second
 --     moves_of               the move count
 --     slot_of                the bytes of a slot; `..In` is a field of a slot's bytes
---     SlotField             n bytes at o within slot k
 --     window_in              the window of the slot's record, and its fields
 --     ring_samples           the samples that the ring shows up to a second
 --     value_in, qualifies_in  what a slot's window reads of the ring
@@ -149,12 +148,6 @@ first_of p k = first_in (slot_of p k)
 
 abbrev pub number_of : List ℕ → ℕ → ℕ
 number_of p k = number_in (slot_of p k)
-
--- n bytes at o within slot k
-pub record SlotField (p : List ℕ) (k o n : ℕ) : Type 0 where
-  pub size : length p ≡ part_len
-  pub slot : k < max_windows
-  pub inside : o + n ≤ slot_len
 
 -- the samples of seconds 0 to s as the ring shows them
 unfoldable pub ring_samples : List ℕ → ℕ → List Sample

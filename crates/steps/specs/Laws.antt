@@ -1,6 +1,6 @@
 -- How a call's return shows its `Step`: a wrong length, a refusal, an answer. Assumes nothing.
 use Rattle.std.specs.Prelude.{Bool, true, false, not, ◌&&◌, List, refl, ℕ, ◌<◌, eqb, ltb, length}
-use Rattle.std.proofs.Common.{true≢false, sym, ◌∙◌, arith, ltb-true, eq-eqb}
+use Rattle.std.proofs.Common.{true≢false, sym, subst, ◌∙◌, arith, ltb-true, eq-eqb}
 use Rattle.std.specs.Prelude.{None, Some}
 use Rattle.std.proofs.Math.Path.{◌≡◌, ap}
 use Rattle.model.specs.Numbers.{bit}
@@ -28,6 +28,17 @@ later k = ltb 1 k && not (eqb k 11)
 
 later_facts : (k : ℕ) → later k ≡ true → (1 < k) × (k ≡ 11 → ⊥)
 later_facts k e = let f = both _ _ e in (ltb-true 1 k f.0, λ g. true≢false (sym f.1 ∙ rw (eq-eqb k 11 g)))
+
+-- what is promised of the array that the lent bytes are is promised of the bytes: where the call writes the array, and where it only reads it
+pub step_of : {c : Call} {s t s' : List ℕ} {a : Answer} → t ≡ s → Step c t a s' → Step c s a s'
+step_of {c} {s} {t} {s'} {a} e st = subst (λ (l : List ℕ). Step c l a s') e st
+
+pub step_seen : {c : Call} {s t : List ℕ} {a : Answer} → t ≡ s → Step c t a t → Step c s a s
+step_seen {c} {s} {t} {a} e st = subst (λ (l : List ℕ). Step c l a l) e st
+
+-- and where the lent record is an array too
+pub step_lent : (call : List ℕ → Call) {r q s t s' : List ℕ} {a : Answer} → q ≡ r → t ≡ s → Step (call q) t a s' → Step (call r) s a s'
+step_lent call {r} {q} {s} {t} {s'} {a} e f st = step_of f (subst (λ (l : List ℕ). Step (call l) t a s') e st)
 
 pub wrong_step : (c : Call) {s : List ℕ} → (length s ≡ area_len → ⊥) → Step c s (refused 11) s
 wrong_step c {s} h = record {

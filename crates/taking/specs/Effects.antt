@@ -1,10 +1,10 @@
 -- What taking a sample does to the area's parts, and what it promises. Assumes nothing.
-use Rattle.std.specs.Prelude.{List, true, ◌≡◌, ℕ, ◌+◌, ◌<◌, ℤ, length}
+use Rattle.std.specs.Prelude.{List, ◌≡◌, ℕ, ◌+◌, ◌<◌, ℤ}
 use Rattle.std.proofs.Common.{arith}
 use Rattle.model.specs.declared.Sample.{Sample}
 use Rattle.model.specs.declared.Tally.{Tally}
 use Rattle.model.specs.declared.Verdict.{Verdict}
-use Rattle.model.specs.Records.{record_length, max_samples, sample_of, in_range}
+use Rattle.model.specs.Records.{max_samples, sample_of}
 use Rattle.model.specs.Tallies.{tally_bytes, tally_from}
 use Rattle.model.specs.Trip.{Trip, Answer, number, judged, refused}
 use Rattle.power.specs.Speeds.{Appended}
@@ -12,7 +12,7 @@ use Rattle.altitudes.specs.Ends.{Kept}
 use Rattle.tally.specs.Add.{added}
 use Rattle.tally.specs.Sound.{Sound}
 use Rattle.window.specs.Sweep.{Stepped}
-use Rattle.area.specs.Layout.{area_len, Parts, parts_of, sample_count, closed_mark, window_count, format_mark, tally_in, altitudes_in, speeds_in, slots_in}
+use Rattle.area.specs.Layout.{Parts, parts_of, sample_count, closed_mark, window_count, format_mark, tally_in, altitudes_in, speeds_in, slots_in}
 use Rattle.area.specs.Stands.{damaged, Stands}
 use Rattle.area_windows.specs.Effects.{CountedMoves}
 
@@ -32,13 +32,10 @@ abbrev pub TakenSound : (k n : ℕ) (r : List ℕ) (x : Sample) (p q : Parts) �
 TakenSound k n r x p q = Sound (tally_from (tally_in p)) → Taken k n r x (added (tally_from (tally_in p)) x) p q
 
 -- what is known once the refusals before it are not given: s is the sample of the record r, and its turn, n, has come
-pub record Taking (area r : List ℕ) (s : Sample) (n : ℕ) : Type 0 where
-  pub size : length area ≡ area_len
-  pub bytes : length r ≡ record_length
+pub record Taking (p : Parts) (r : List ℕ) (s : Sample) (n : ℕ) : Type 0 where
   pub room : n < max_samples
-  pub turn : n ≡ sample_count (parts_of area)
+  pub turn : n ≡ sample_count p
   pub sample : s ≡ sample_of r
-  pub range : in_range s ≡ true
 
 -- what taking the sample of record r, second n, promises of the answer a: where the tally in the area is sound, the sample is taken with it and the
 -- answer is the moves; or the refusal of an area that stands for no trip, which changes nothing

@@ -2,17 +2,16 @@
 // low four bytes, of U and extended U the low six.
 #![tactic(auto)]
 
-ghost use Rattle.std.specs.Prelude.{true, ◌≡◌, ◌+◌, ◌*◌, ◌^◌, ◌≤◌, ◌<◌, pos, nat_abs, ◌+ℤ◌, length};
+ghost use Rattle.std.specs.Prelude.{◌≡◌, ◌+◌, ◌*◌, ◌^◌, ◌≤◌, ◌<◌, pos, nat_abs, ◌+ℤ◌, length};
 ghost use Rattle.model.specs.Numbers.{unsigned};
-ghost use Rattle.model.specs.Tallies.{tally_length, words};
+ghost use Rattle.model.specs.Tallies.{words};
 ghost use Rattle.laws.specs.Lists.{All};
 ghost use Rattle.field.specs.Le.{put_le};
 ghost use Rattle.field.specs.Part.{put};
-ghost use Rattle.model.specs.Records.{in_range};
 ghost use Rattle.class_tally.specs.Add.{SmallClass};
 ghost use Rattle.tally_update.specs.Raised.{raised, low_sum, low_class, class_numbers, Added};
 
-use model::{ClassTally, Distance, Sample, SpeedClass};
+use model::{ClassTally, Distance, Sample, SpeedClass, TALLY_LEN};
 
 // Where the distances of the classes, the counts, U and extended U stand.
 const DISTANCES: usize = 8 * 3;
@@ -24,41 +23,43 @@ const NOX: usize = 8 * 12;
 const EXTENDED: usize = NOX + 8;
 
 // The numbers at `at`, each of its low four bytes, with those of ns added. Not one with tally_bytes::put_words, which reads nothing.
+#[tactic(auto, using(field::specs::Part::put_nil, crate::proofs::Raising::raise_step), unfolding(model::specs::Tallies::words))]
 fn raise(b: &mut [u8], at: usize, ns: &[u64])
     requires { (at + 8 * length ns.now ≤ length b.old) × All (λ n. n < 2 ^ 62) ns.now }
     ensures { b.new ≡ put b.old at (words (raised b.old at ns.now)) }
 {
     for (i, n) in ns.iter().enumerate() {
-        let low = field::get::<u32>(b, at + 8 * i) as u64;
+        let low = u64::from(field::get::<u32>(b, at + 8 * i));
         field::put(b, at + 8 * i, low + *n);
     }
 }
 
 // The sum at `at`, of its low six bytes, with z added.
+#[tactic(auto, unfolding(crate::specs::Raised::low_sum))]
 fn raise_sum(b: &mut [u8], at: usize, z: i64)
     requires { (at + 8 ≤ length b.old) × (nat_abs z < 2 ^ 62) }
     ensures { b.new ≡ put_le 8 b.old at (unsigned 8 (pos (low_sum b.old at) +ℤ z)) }
 {
-    let low = field::get::<u32>(b, at) as u64;
-    let above = field::get::<u16>(b, at + 4) as u64;
+    let low = u64::from(field::get::<u32>(b, at));
+    let above = u64::from(field::get::<u16>(b, at + 4));
     let sum = (low + 0x1_0000_0000 * above) as i64;
     field::put(b, at, sum + z);
 }
 
-// The k-th class tally, of low numbers.
-fn low_class(b: &[u8], k: usize) -> ClassTally
-    requires { (length b.now ≡ tally_length) × (k < 3) }
+// The k-th class tally, of low numbers. Not one with tally_bytes::class_at: those are whole numbers, at any place, and without the bound that adding asks.
+fn low_class(b: &[u8; TALLY_LEN], k: usize) -> ClassTally
+    requires { k < 3 }
     ensures { (result ≡ low_class b.now k) × SmallClass result }
 {
     ClassTally {
-        samples: field::get::<u32>(b, 8 * k) as u64,
-        distance: Distance(field::get::<u32>(b, DISTANCES + 8 * k) as u64),
+        samples: u64::from(field::get::<u32>(b, 8 * k)),
+        distance: Distance(u64::from(field::get::<u32>(b, DISTANCES + 8 * k))),
     }
 }
 
 // Each class tally is brought up to date by the sample.
-fn add_classes(b: &mut [u8], s: Sample)
-    requires { length b.old ≡ tally_length }
+#[tactic(auto, unfolding(crate::specs::Raised::class_numbers))]
+fn add_classes(b: &mut [u8; TALLY_LEN], s: Sample)
     ensures { b.new ≡ put b.old 0 (words (class_numbers b.old s)) }
 {
     let urban = class_tally::add_class(SpeedClass::Urban, low_class(b, 0), s);
@@ -76,8 +77,8 @@ fn add_classes(b: &mut [u8], s: Sample)
 }
 
 // A sample is added to the tally whose bytes these are, where that is sound.
-pub fn add(b: &mut [u8], s: Sample)
-    requires { (length b.old ≡ tally_length) × (in_range s ≡ true) }
+#[tactic(auto, unfolding(laws::specs::Lists::All))]
+pub fn add(b: &mut [u8; TALLY_LEN], s: Sample)
     ensures { Added s b.old b.new }
 {
     add_classes(b, s);

@@ -6,14 +6,15 @@ ghost use Rattle.model.specs.declared.Sample.{Sample};
 ghost use Rattle.model.specs.Records.{max_samples};
 ghost use Rattle.model.specs.Tallies.{tally_of};
 ghost use Rattle.model.specs.Verdicts.{mask, finding as finding_of, verdict_of};
-ghost use Rattle.limits.specs.Bounds.{BoundedTally};
-ghost use Rattle.tally.specs.Sound.{Sound};
 ghost use Rattle.power.specs.Speeds.{speeds_of, Stored};
 ghost use Rattle.altitudes.specs.Ends.{EndsOf};
 ghost use Rattle.verdict.specs.Judged.{mask_bits, broken_by};
 
 use altitudes::Ends;
-use model::{Finding, Tally, Verdict};
+use limits::TripTally;
+use model::{Finding, Verdict};
+use power::Speeds;
+use tally::SoundTally;
 
 // The bit of rule 15, the first that the walk over the speeds decides.
 const DYNAMICS: u32 = 32768;
@@ -22,16 +23,17 @@ const DYNAMICS: u32 = 32768;
 const ENDS: u32 = 64 * DYNAMICS;
 
 // The mask of all rules, bit k for rule k.
-fn broken(t: Tally, speeds: &[u8], n: usize, e: Ends) -> u32
-    requires { (2 * n ≤ length speeds.now) × ((n ≤ max_samples) × BoundedTally t) }
-    ensures { result ≡ mask (broken_by t (speeds_of speeds.now n) n e) }
+#[tactic(auto, unfolding(model::specs::Verdicts::mask, crate::specs::Judged::broken_by, power::specs::Dynamics::dynamics_rules, rule::specs::TallyRules::tally_rules))]
+fn broken(t: TripTally, speeds: Speeds, e: Ends) -> u32
+    ensures { result ≡ mask (broken_by t.tally (speeds_of speeds.entry.bytes.now speeds.entry.n) speeds.entry.n e) }
 {
-    rule::tally_rules(n, t)
-        + DYNAMICS * power::dynamics_rules(speeds, n, t)
-        + ENDS * model::bit(altitudes::ends_rule(n, e))
+    rule::tally_rules(speeds.n, t)
+        + DYNAMICS * power::dynamics_rules(speeds, t)
+        + ENDS * model::bit(altitudes::ends_rule(speeds.n, e))
 }
 
 // The lowest broken rule; else exceeded; else clean.
+#[tactic(auto, using(crate::specs::Judged::first_rule, crate::specs::Judged::none_set))]
 fn finding(broken: u32, exceeded: bool) -> Finding
     ensures { (bs : List Bool) → length bs ≤ mask_bits → broken ≡ mask bs → result ≡ finding_of 0 bs exceeded }
 {
@@ -45,12 +47,13 @@ fn finding(broken: u32, exceeded: bool) -> Finding
 }
 
 // The verdict on the samples with this tally, these first n speeds and these altitudes of the first and the last of them.
-pub fn verdict(t: Tally, speeds: &[u8], n: usize, e: Ends) -> Verdict
-    requires { (2 * n ≤ length speeds.now) × ((n ≤ max_samples) × Sound t) }
-    ensures { (ss : List Sample) → t ≡ tally_of ss → Stored speeds.now n ss → EndsOf ss e → result ≡ verdict_of ss }
+pub fn verdict(t: SoundTally, speeds: &[u8], n: usize, e: Ends) -> Verdict
+    requires { (2 * n ≤ length speeds.now) × (n ≤ max_samples) }
+    ensures { (ss : List Sample) → t.tally ≡ tally_of ss → Stored speeds.now n ss → EndsOf ss e → result ≡ verdict_of ss }
 {
-    let b = broken(t, speeds, n, e);
-    let over = rule::exceeded(t);
+    let trip = TripTally { tally: t.tally };
+    let b = broken(trip, Speeds { bytes: speeds, n }, e);
+    let over = rule::exceeded(trip);
     Verdict {
         broken: b,
         exceeded: over,

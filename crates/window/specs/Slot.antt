@@ -86,44 +86,21 @@ pub record Slides (w : Window) (ss : List Sample) (x : Sample) (c : Change) : Ty
   pub leaves : c.leaves ≡ then_some (leaves w ss) (leaving w ss)
   pub enters : c.enters ≡ then_some (enters w ss x) (channel w.channel x)
 
--- a value that is there where t holds
-module _ (t : Bool) (z : ℤ) where
-  some_is : is_some (then_some t z) ≡ t
-  some_is = by t
-    where
-      by : (t : Bool) → is_some (then_some t z) ≡ t
-      by true = refl
-      by false = refl
+-- of a value that is there where t holds: whether it is there, the number that it adds, and the list of it
+option_is : (t : Bool) (z : ℤ) → (is_some (then_some t z) ≡ t) × (or_zero (then_some t z) ≡ addend t z) × (option_to_list (then_some t z) ≡ one t z)
+option_is true z = (refl, refl, refl)
+option_is false z = (refl, refl, refl)
 
-  zero_is : or_zero (then_some t z) ≡ addend t z
-  zero_is = by t
-    where
-      by : (t : Bool) → or_zero (then_some t z) ≡ addend t z
-      by true = refl
-      by false = refl
+-- no more than the value, which a cell holds
+storable_is : (t : Bool) (z : ℤ) → Storable z → Storable (or_zero (then_some t z))
+storable_is true z h = h
+storable_is false z h = omega arith
 
-  list_is : option_to_list (then_some t z) ≡ one t z
-  list_is = by t
-    where
-      by : (t : Bool) → option_to_list (then_some t z) ≡ one t z
-      by true = refl
-      by false = refl
-
-  -- no more than the value, which a cell holds
-  storable_is : Storable z → Storable (or_zero (then_some t z))
-  storable_is h = by t
-    where
-      by : (t : Bool) → Storable (or_zero (then_some t z))
-      by true = h
-      by false = omega arith
-
-  stepped_is : (w n : ℕ) (d : ℤ → ℕ → Bool) (l : List ℕ) → stepped w n (is_some (then_some t z)) (d (or_zero (then_some t z))) l ≡ stepped w n t (d z) l
-  unfolding stepped
-  stepped_is w n d l = by t
-    where
-      by : (t : Bool) → stepped w n (is_some (then_some t z)) (d (or_zero (then_some t z))) l ≡ stepped w n t (d z) l
-      by true = refl
-      by false = refl
+stepped_is : (t : Bool) (z : ℤ) (w n : ℕ) (d : ℤ → ℕ → Bool) (l : List ℕ)
+    → stepped w n (is_some (then_some t z)) (d (or_zero (then_some t z))) l ≡ stepped w n t (d z) l
+unfolding stepped
+stepped_is true z w n d l = refl
+stepped_is false z w n d l = refl
 
 layout_fields : (r : List ℕ) → layout_kept r ≡ true → fields_kept r ≡ true
 unfolding layout_kept
@@ -223,10 +200,10 @@ module _ (w : Window) (ss : List Sample) (x : Sample) (k n : ℕ) (p : List ℕ)
 
   module _ (c : Change) (h : Slides w ss x c) where
     leaves_same : is_some c.leaves ≡ leaves w ss
-    leaves_same = ap is_some h.leaves ∙ some_is (leaves w ss) (leaving w ss)
+    leaves_same = ap is_some h.leaves ∙ (option_is (leaves w ss) (leaving w ss)).0
 
     pub enters_same : is_some c.enters ≡ enters w ss x
-    enters_same = ap is_some h.enters ∙ some_is (enters w ss x) (channel w.channel x)
+    enters_same = ap is_some h.enters ∙ (option_is (enters w ss x) (channel w.channel x)).0
 
     pub before_rollable : Rollable (count_in (slot_of p k)) (sum_in (slot_of p k)) c
     before_rollable =
@@ -247,14 +224,14 @@ module _ (w : Window) (ss : List Sample) (x : Sample) (k n : ℕ) (p : List ℕ)
 
     -- what leaves, by the change
     pub leaving_same : option_to_list c.leaves ≡ one (leaves w ss) (leaving w ss)
-    leaving_same = rw h.leaves (list_is (leaves w ss) (leaving w ss))
+    leaving_same = rw h.leaves (option_is (leaves w ss) (leaving w ss)).2
 
     pub entering_same : option_to_list c.enters ≡ one (enters w ss x) (channel w.channel x)
-    entering_same = rw h.enters (list_is (enters w ss x) (channel w.channel x))
+    entering_same = rw h.enters (option_is (enters w ss x) (channel w.channel x)).2
 
     pub sum_same : sum_after (sum_in (slot_of p k)) c ≡ sumℤ (values w (more ss x))
     sum_same =
-        rw (b.stands.sum, h.leaves, h.enters, zero_is (leaves w ss) (leaving w ss), zero_is (enters w ss x) (channel w.channel x))
+        rw (b.stands.sum, h.leaves, h.enters, (option_is (leaves w ss) (leaving w ss)).1, (option_is (enters w ss x) (channel w.channel x)).1)
         (sym (sum_step w ss wide.0 x))
 
     pub count_same : count_after (count_in (slot_of p k)) c ≡ length (values w (more ss x))

@@ -2,9 +2,9 @@
 #![tactic(auto)]
 
 ghost use Rattle.std.specs.Prelude.{◌≡◌, [], ◌^◌, ◌≤◌, ◌<◌, ltb, nat_abs, length};
-ghost use Rattle.model.specs.Records.{record_length, max_windows};
+ghost use Rattle.model.specs.Records.{max_windows};
 ghost use Rattle.slide.specs.Undisplaced.{aged};
-ghost use Rattle.slots.specs.Layout.{part_len, slot_of, code_in, count_in, list_capacity};
+ghost use Rattle.slots.specs.Layout.{slot_of, code_in, count_in, list_capacity};
 ghost use Rattle.lists.specs.Lists.{list_of, Fit};
 ghost use Rattle.list_steps.specs.Steps.{extreme_code};
 ghost use Rattle.rolling.specs.Change.{or_zero, Small, Roomy};
@@ -13,25 +13,20 @@ ghost use Rattle.window.specs.Slot.{qualifying_value, Changes, Fillable, Kept, R
 ghost use Rattle.window.specs.Sweep.{Sweeping, Steppable, Stepped, Added};
 
 use list_steps::Extreme;
-use model::Function;
+use model::{Function, RECORD_LEN};
 use rolling::Change;
-use slots::{LIST_CAPACITY, SLOT_LEN, SLOTS, STORE, STORE_LEN};
-
-// The store of slot 0.
-pub const STORES: usize = SLOTS + STORE;
+use slots::{LIST_CAPACITY, Part, STORE, STORE_LEN, Slot};
 
 // The value that slot k's window reads of a second, where the second qualifies: read in any case, so that no branch depends on the data.
-fn qualifying_value(part: &[u8], k: usize, second: u16) -> Option<i64>
-    requires { (length part.now ≡ part_len) × (k < max_windows) }
-    ensures { (result ≡ qualifying_value part.now k second) × (nat_abs (or_zero result) < 2 ^ 32) }
+fn qualifying_value(part: &Part, k: Slot, second: u16) -> Option<i64>
+    ensures { (result ≡ qualifying_value part.now k.number second) × (nat_abs (or_zero result) < 2 ^ 32) }
 {
     slots::qualifies(part, k, second).then_some(slots::value(part, k, second))
 }
 
 // What changes in slot k's window as second n comes, whose record the ring has already.
-fn read_change(part: &[u8], k: usize, n: u16) -> Change
-    requires { (length part.now ≡ part_len) × (k < max_windows) }
-    ensures { Changes part.now k n result }
+fn read_change(part: &Part, k: Slot, n: u16) -> Change
+    ensures { Changes part.now k.number n result }
 {
     let enters = qualifying_value(part, k, n);
     let width = slots::width(part, k);
@@ -46,18 +41,18 @@ fn read_change(part: &[u8], k: usize, n: u16) -> Change
 }
 
 // The values in order of slot k, m of them.
-fn keep_values(part: &mut [u8], k: usize, m: usize, c: Change)
-    requires { Fillable part.old k m c }
-    ensures { Refilled k c part.old part.new }
+fn keep_values(part: &mut Part, k: Slot, m: usize, c: Change)
+    requires { Fillable part.old k.number m c }
+    ensures { Refilled k.number c part.old part.new }
 {
-    let at = STORES + SLOT_LEN * k;
+    let at = k.place() + STORE;
     rolling::restock(&mut part[at..at + STORE_LEN], m, c);
 }
 
-// Whether slot k's list has room for second n, once the one that a window of width w leaves behind has gone.
-fn has_room(part: &[u8], k: usize, w: u16, n: u16) -> bool
-    requires { Fit part.now k }
-    ensures { result ≡ ltb (length (aged w n (list_of part.now k))) list_capacity }
+// Whether slot k's list has room for second n, once the one that a window of width w leaves behind has gone. `Fit` is a clause, as at lists::append.
+fn has_room(part: &Part, k: Slot, w: u16, n: u16) -> bool
+    requires { Fit part.now k.number }
+    ensures { result ≡ ltb (length (aged w n (list_of part.now k.number))) list_capacity }
 {
     if slots::number(part, k) < LIST_CAPACITY {
         return true;
@@ -69,9 +64,9 @@ fn has_room(part: &[u8], k: usize, w: u16, n: u16) -> bool
 }
 
 // The held entries of slot k, whose window is one of smallest or largest.
-fn keep_list(part: &mut [u8], k: usize, n: u16, extreme: Extreme, c: Change)
-    requires { (Fit part.old k) × (code_in (slot_of part.old k) ≡ extreme_code extreme) }
-    ensures { Kept k n c part.old part.new }
+fn keep_list(part: &mut Part, k: Slot, n: u16, extreme: Extreme, c: Change)
+    requires { (Fit part.old k.number) × (code_in (slot_of part.old k.number) ≡ extreme_code extreme) }
+    ensures { Kept k.number n c part.old part.new }
 {
     let w = slots::width(part, k);
     if !has_room(part, k, w, n) {
@@ -81,22 +76,22 @@ fn keep_list(part: &mut [u8], k: usize, n: u16, extreme: Extreme, c: Change)
 }
 
 // What slot k's function keeps besides count and sum.
-fn keep(part: &mut [u8], k: usize, n: u16, m: u32, c: Change)
-    requires { (Fit part.old k) × (m ≡ count_in (slot_of part.old k)) × (Roomy m c) × (Small c) }
-    ensures { Kept k n c part.old part.new }
+fn keep(part: &mut Part, k: Slot, n: u16, m: u32, c: Change)
+    requires { (Fit part.old k.number) × (m ≡ count_in (slot_of part.old k.number)) × (Roomy m c) × (Small c) }
+    ensures { Kept k.number n c part.old part.new }
 {
     match Function::try_from(slots::code(part, k)) {
         Ok(Function::Smallest) => keep_list(part, k, n, Extreme::Smallest, c),
         Ok(Function::Largest) => keep_list(part, k, n, Extreme::Largest, c),
         Ok(Function::Percentile) => keep_values(part, k, m as usize, c),
-        _ => {}
+        Ok(Function::Count | Function::Sum | Function::Average) => {}
+        Err(_) => {}
     }
 }
 
 // Slot k's window as second n comes. Bytes that no list of calls leaves are left as they are.
-fn turn(part: &mut [u8], k: usize, n: u16)
-    requires { (length part.old ≡ part_len) × (k < max_windows) }
-    ensures { Turned k n part.old part.new }
+fn turn(part: &mut Part, k: Slot, n: u16)
+    ensures { Turned k.number n part.old part.new }
 {
     if !lists::fit(part, k) {
         return;
@@ -111,17 +106,17 @@ fn turn(part: &mut [u8], k: usize, n: u16)
     rolling::roll(part, k, m, sum, c);
 }
 
-fn sweep(part: &mut [u8], windows: usize, n: u16)
-    requires { (length part.old ≡ part_len) × (windows ≤ max_windows) }
+fn sweep(part: &mut Part, windows: usize, n: u16)
+    requires { windows ≤ max_windows }
     ensures { Sweeping n windows windows part.old part.new }
 {
     for k in 0..windows {
-        turn(part, k, n);
+        turn(part, Slot { number: k }, n);
     }
 }
 
 // One sample more for all windows: the record of second n, which is in range.
-pub fn step(part: &mut [u8], windows: usize, n: u16, bytes: &[u8])
+pub fn step(part: &mut Part, windows: usize, n: u16, bytes: &[u8; RECORD_LEN])
     requires { Steppable part.old windows n bytes.now }
     ensures { Stepped windows n bytes.now part.old part.new }
 {
@@ -130,16 +125,14 @@ pub fn step(part: &mut [u8], windows: usize, n: u16, bytes: &[u8])
 }
 
 // Window k by its record, which keeps the layout.
-pub fn declare(part: &mut [u8], k: usize, bytes: &[u8])
-    requires { (length part.old ≡ part_len) × (k < max_windows) × (length bytes.now ≡ record_length) }
-    ensures { Added k bytes.now part.old part.new }
+pub fn declare(part: &mut Part, k: Slot, bytes: &[u8; RECORD_LEN])
+    ensures { Added k.number bytes.now part.old part.new }
 {
     slots::declare_slot(part, k, bytes);
 }
 
 // No windows, whatever the bytes were.
-pub fn clear(part: &mut [u8])
-    requires { length part.old ≡ part_len }
+pub fn clear(part: &mut Part)
     ensures { Stands [] [] part.new }
 {
     lists::clear_lists(part);

@@ -1,15 +1,15 @@
 // A window record, checked.
 #![tactic(auto)]
 
-ghost use Rattle.std.specs.Prelude.{◌≡◌, length};
-ghost use Rattle.model.specs.Records.{record_length, fields_kept};
+ghost use Rattle.std.specs.Prelude.{◌≡◌};
+ghost use Rattle.model.specs.Records.{fields_kept};
 ghost use Rattle.window_record.specs.Read.{window_read};
 
 use model::{Function, MAX_WIDTH, RECORD_LEN, Refusal};
 
-// A window record keeps the layout, but for the function code.
-fn fields_kept(r: &[u8]) -> bool
-    requires { length r.now ≡ record_length }
+// A window record keeps the layout, but for the function code. Two comparisons a range: `contains` of a range says no more.
+#[tactic(auto, using(crate::proofs::Tests::field_tests))]
+fn fields_kept(r: &[u8; RECORD_LEN]) -> bool
     ensures { result ≡ fields_kept r.now }
 {
     let channel = field::get::<u8>(r, 1) <= 6;
@@ -23,12 +23,12 @@ fn fields_kept(r: &[u8]) -> bool
 }
 
 // Whether a window record of any length keeps the layout.
+#[tactic(auto, unfolding(model::specs::Records::layout_kept))]
+#[inline(always)]
 pub fn read_window(r: &[u8]) -> Result<(), Refusal>
     ensures { result ≡ window_read r.now }
 {
-    if r.len() != RECORD_LEN {
-        return Err(Refusal::RecordLength);
-    }
+    let r = r.as_array().ok_or(Refusal::RecordLength)?;
     Function::try_from(field::get::<u8>(r, 0))?;
     if fields_kept(r) {
         Ok(())

@@ -7,5 +7,5 @@ use Rattle.area.proofs.add_sample.Goals as goal
 pub returns : goal.returns
 unfolding place size before lengths
 returns c =
-    let b = c.add in
-    lent_changed _ c.requires.0 tally_part _ _ refl refl _ b.new.b b.auto.b b.ensures
+    let b = c.add_to in
+    lent_changed _ c.told-area tally_part _ _ refl refl _ b.new.tally b.auto.tally b.ensures

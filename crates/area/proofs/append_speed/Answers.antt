@@ -8,4 +8,4 @@ pub returns : goal.returns
 unfolding place size before lengths
 returns c =
     let b = c.append_speed in
-    lent_changed _ c.requires.0 speeds_part _ _ refl refl _ b.new.speeds b.auto.speeds b.ensures
+    lent_changed _ c.told-area speeds_part _ _ refl refl _ b.new.speeds b.auto.speeds b.ensures

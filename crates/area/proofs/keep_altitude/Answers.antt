@@ -10,5 +10,5 @@ pub returns : goal.returns
 unfolding place size before lengths
 returns c =
     let b = c.keep in
-    lent_changed _ c.requires altitudes_part _ _ refl refl _ b.new.part b.auto.part
+    lent_changed _ c.told-area altitudes_part _ _ refl refl _ b.new.part b.auto.part
     (rw (to_z-of_z w16 c.args.altitude c.ranges.altitude) at b.ensures)

@@ -7,4 +7,4 @@ pub returns : goal.returns
 returns c =
     let h = head_number c.args.which in
     let put = rw h.0 at c.put.ensures in
-    numbered _ _ _ c.args.n c.requires h.1 (omega arith) put
+    numbered _ _ _ c.args.n c.told-area h.1 (omega arith) put

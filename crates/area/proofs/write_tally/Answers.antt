@@ -8,4 +8,4 @@ use Rattle.area.proofs.write_tally.Goals as goal
 pub returns : goal.returns
 unfolding place size before lengths
 returns c =
-    ap parts_of c.write.ensures ∙ part_put _ c.requires tally_part _ (tally_length_lem c.args.t)
+    ap parts_of c.write.ensures ∙ part_put _ c.told-area tally_part _ (tally_length_lem c.args.t)

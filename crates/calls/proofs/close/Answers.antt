@@ -2,6 +2,7 @@
 use borrow.Author.Rules.{rules}
 use Rattle.std.proofs.lemmas.Result.{err_from_is_err_and}
 use Rattle.model.specs.Trip.{close}
+use Rattle.steps.specs.Laws.{step_of}
 use Rattle.steps.specs.Refusals.{close_unlending, close_closed}
 use Rattle.steps.specs.Accepted.{close_done}
 use Rattle.calls.proofs.close.Goals as goal
@@ -9,12 +10,12 @@ use Rattle.calls.proofs.close.Goals as goal
 pub returns-in_err-recognise : goal.returns-in_err-recognise
 returns-in_err-recognise c =
     let p = err_from_is_err_and c.from_residual.result c.from_residual.ensures.1 in
-    rw (p.1, p.2) (c.in_err-recognise.ensures close close_unlending)
+    rw (p.1, p.2) (step_of c.in-Some.ensures.cases.same (c.in_err-recognise.ensures close close_unlending))
 
 pub returns-then-is_closed : goal.returns-then-is_closed
 returns-then-is_closed c =
-    close_closed c.in_ok-recognise.ensures (c.is_closed.ensures.closed c.if-is_closed.true)
+    step_of c.in-Some.ensures.cases.same (close_closed c.in_ok-recognise.ensures (c.is_closed.ensures.closed c.if-is_closed.true))
 
 pub returns : goal.returns
 returns c =
-    close_done (search rules) c.in_ok-recognise.ensures (c.is_closed.ensures.open c.if-is_closed.false) c.set_mark.ensures
+    step_of c.in-Some.ensures.cases.same (close_done (search rules) c.in_ok-recognise.ensures (c.is_closed.ensures.open c.if-is_closed.false) c.set_number.ensures)

@@ -11,10 +11,6 @@ pub loop-last-init : goal.loop-last-init
 loop-last-init c =
     pop_start _ _ _ _ _ (search rules) c.number-last.ensures
 
-pub shape_of-part-then-not-displaced : goal.shape_of-part-then-not-displaced
-shape_of-part-then-not-displaced c =
-    c.loop-last.invariant.done.beside.size
-
 pub returns-then-not-displaced : goal.returns-then-not-displaced
 returns-then-not-displaced c =
     let stays = sym c.displaced.ensures ∙ c.if-not-displaced.true in
@@ -24,10 +20,6 @@ pub loop-last-preserved : goal.loop-last-preserved
 loop-last-preserved c =
     let goes = sym c.displaced.ensures ∙ c.if-not-displaced.false in
     pop_more _ _ _ _ _ _ c.loop-last.invariant _ (omega arith) c.entry-second.ensures _ goes c.remove.ensures
-
-pub shape_of-part : goal.shape_of-part
-shape_of-part c =
-    c.loop-last.invariant.done.beside.size
 
 pub returns : goal.returns
 returns c =

@@ -3,4 +3,4 @@ use Rattle.list_steps.specs.Steps.{Popping}
 use Rattle.list_steps.proofs.pop.Given as goal
 
 abbrev pub invariant-loop-last : goal.invariant-loop-last
-invariant-loop-last l = Popping l.extreme l.new l.k l.fn.part l.part l.last
+invariant-loop-last l = Popping l.extreme l.new l.k.number l.fn.part l.part l.last

@@ -14,7 +14,7 @@ pub pop-requires : goal.pop-requires
 pop-requires c =
     fit_after _ _ _ _ c.requires.0 c.age.ensures (omega (arith, c.requires.1))
 
-popped : (c : After-pop) → Became c.args.k c.age.new.part c.pop.new.part (pops (displaces_in c.args.extreme c.in-Some.z c.age.new.part c.args.k) (list_of c.age.new.part c.args.k)) 0
+popped : (c : After-pop) → Became c.args.k.number c.age.new.part c.pop.new.part (pops (displaces_in c.args.extreme c.in-Some.z c.age.new.part c.args.k.number) (list_of c.age.new.part c.args.k.number)) 0
 popped c =
     let f : SFits w64 c.in-Some.z = search rules in
     rw (to_z-of_z w64 c.in-Some.z f) at c.pop.ensures

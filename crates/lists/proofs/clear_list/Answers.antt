@@ -1,8 +1,7 @@
 -- `lists::clear_list` meets its contract. Assumes nothing.
-use borrow.Author.Rules.{rules}
 use Rattle.lists.specs.Effects.{emptied}
 use Rattle.lists.proofs.clear_list.Goals as goal
 
 pub returns : goal.returns
 returns c =
-    emptied _ _ _ _ (search rules) (search rules) c.put.ensures c.put-2.ensures
+    emptied _ _ _ _ c.told-part c.args.k.within c.put.ensures c.put-2.ensures

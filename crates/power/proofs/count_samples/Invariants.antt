@@ -4,4 +4,4 @@ use Rattle.power.specs.Counts.{CountedTo}
 use Rattle.power.proofs.count_samples.Given as goal
 
 abbrev pub invariant-loop-i : goal.invariant-loop-i
-invariant-loop-i l = CountedTo l.b (speeds_of l.speeds l.n) l.i l.k
+invariant-loop-i l = CountedTo l.b (speeds_of l.speeds.bytes.now l.speeds.n) l.i l.k

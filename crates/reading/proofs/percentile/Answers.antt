@@ -1,18 +1,19 @@
 -- `reading::percentile` meets its contract. Assumes nothing.
 use mathlib.Core.Path.{refl}
-use Prim.Native.Nat.{ℕ, ◌+◌, ◌*◌}
+use Prim.Native.Nat.{ℕ, ◌+◌, ◌-◌, ◌≤◌}
+use Rattle.std.proofs.Common.{List, length, take, drop, length-take, length-drop}
 use native.Mathlib.Omega.{arith}
 use borrow.Author.Rules.{rules}
-use mir.Syntax.{w64}
-use mir.ValLaws.{to_z-of_z}
-use Rattle.slots.specs.Layout.{slots_place, slot_len, store_place, store_len}
+use Rattle.laws.specs.Signed.{widened_is}
+use Rattle.cells.specs.Store.{values_alone}
+use Rattle.slots.specs.Layout.{store_place, store_len}
 use Rattle.reading.specs.Read.{reads_none, reads_beyond, reads_percentile}
 use Rattle.window.specs.Slot.{store_lent}
 use Rattle.reading.proofs.percentile.Goals as goal
 
 pub returns-then-count-eq0 : goal.returns-then-count-eq0
 returns-then-count-eq0 c =
-    let code = c.requires.2 in
+    let code = c.requires in
     reads_none _ _ (omega arith) (omega arith) (omega (arith, c.count-count.ensures))
 
 pub returns-then-count-gt-MOST_COUNT : goal.returns-then-count-gt-MOST_COUNT
@@ -21,8 +22,12 @@ returns-then-count-gt-MOST_COUNT c =
 
 pub returns : goal.returns
 returns c =
-    let k : ℕ = c.args.k in
-    let a : ℕ = slots_place + store_place + slot_len * k in
-    rw (to_z-of_z w64 _ (record { sfits = c.percentile.type_inv }))
-    (reads_percentile _ _ _ c.count-count.ensures (search rules) _ c.requires.2 _
-    (store_lent c.args.part.now k a (a + store_len) (omega arith) refl) c.percentile.ensures)
+    let k : ℕ = c.args.k.number in
+    let a : ℕ = c.place-at.result + store_place in
+    let m : ℕ = c.count-count.result in
+    let store : List ℕ = take (a + store_len - a) (drop a c.args.part.now) in
+    let size : store_len ≤ length store = simp (length-take, length-drop) (omega arith) in
+    let front = values_alone store m (omega arith) in
+    rw (c.from.ensures, widened_is c.percentile.result (record { sfits = c.percentile.type_inv }))
+    (reads_percentile _ _ m c.count-count.ensures (search rules) _ c.requires store
+    (store_lent c.args.part.now k a (a + store_len) (omega (arith, c.place-at.ensures)) refl) (rw (front.1, front.0) at c.percentile.ensures))

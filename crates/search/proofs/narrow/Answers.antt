@@ -35,7 +35,7 @@ loop-len-preserved c =
 
 pub returns : goal.returns
 returns c =
-    rw (made_back c.args.z c.requires.1) at c.loop-len.invariant
+    rw (made_back c.args.z c.requires) at c.loop-len.invariant
 
 pub overflow_sub-c : goal.overflow_sub-c
 overflow_sub-c c = search made_fits

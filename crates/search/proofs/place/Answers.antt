@@ -12,7 +12,7 @@ use Rattle.search.proofs.place.Goals.{After-not_less}
 
 pub loop-len-init : goal.loop-len-init
 loop-len-init c =
-    rw (made_back c.args.z c.requires.1) (rw (to_z-of_z w64 c.args.z c.ranges.z) at c.narrow-span.ensures)
+    rw (made_back c.args.z c.requires) (rw (to_z-of_z w64 c.args.z c.ranges.z) at c.narrow-span.ensures)
 
 -- a probe counts at most once
 most : (c : After-not_less) → (c.loop-len.len + 1) / 2 * c.not_less.result ≤ (c.loop-len.len + 1) / 2 * 1
@@ -33,7 +33,7 @@ loop-len-preserved c =
 
 pub returns : goal.returns
 returns c =
-    rw (made_back c.args.z c.requires.1) at (span_one _ _ _ _ _ c.loop-len.invariant (omega arith))
+    rw (made_back c.args.z c.requires) at (span_one _ _ _ _ _ c.loop-len.invariant (omega arith))
 
 pub overflow_sub-c : goal.overflow_sub-c
 overflow_sub-c c = search made_fits

@@ -1,10 +1,9 @@
 -- `slots::copy_record` meets its contract. Assumes nothing.
 use native.Mathlib.Omega.{arith}
-use borrow.Author.Rules.{rules}
 use Rattle.slots.proofs.Copy.{copied}
 use Rattle.slots.proofs.copy_record.Goals as goal
 
 pub returns : goal.returns
 returns c =
     let written = rw c.put.ensures at c.put-2.ensures in
-    copied _ (λ i. omega (arith, c.type_inv.bytes i)) 8 8 _ _ _ _ _ (search rules) c.get-front.ensures c.get-back.ensures written
+    copied _ (λ i. omega (arith, c.fits-bytes i)) 8 8 _ _ _ _ _ c.told-bytes c.get-front.ensures c.get-back.ensures written

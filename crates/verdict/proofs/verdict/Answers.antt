@@ -1,4 +1,4 @@
--- `verdict::verdict` meets its contract. Assumes nothing.
+-- `verdict::verdict` meets its contract: a sound tally is bounded. Assumes nothing.
 use Rattle.model.specs.Numbers.{le_val}
 use Rattle.field.specs.Cells.{cells_length}
 use Rattle.power.specs.Speeds.{speeds_of}
@@ -6,19 +6,14 @@ use Rattle.rule.specs.Bounds.{tally_bounded}
 use Rattle.verdict.specs.Judged.{verdict_is}
 use Rattle.verdict.proofs.verdict.Goals as goal
 
-pub broken-b-requires : goal.broken-b-requires
-broken-b-requires c =
-    (c.requires.0, (c.requires.1.0, tally_bounded c.args.t c.requires.1.1))
-
-pub exceeded-over-requires : goal.exceeded-over-requires
-exceeded-over-requires c =
-    tally_bounded c.args.t c.requires.1.1
+pub invariant_of-trip : goal.invariant_of-trip
+invariant_of-trip c = record { bounded = tally_bounded c.args.t.tally c.args.t.sound }
 
 pub returns : goal.returns
 returns c ss a b d =
     let x = c.args in
     let part = x.speeds.now in
-    verdict_is ss x.t x.n (speeds_of part x.n) x.e a b (cells_length 2 le_val part x.n) d
+    verdict_is ss x.t.tally x.n (speeds_of part x.n) x.e a b (cells_length 2 le_val part x.n) d
     (record { broken = c.broken-b.result; exceeded = c.exceeded-over.result; finding = c.finding.result })
     c.broken-b.ensures
     c.exceeded-over.ensures

@@ -1,8 +1,7 @@
 -- `window::clear` meets its contract. Assumes nothing.
-use borrow.Author.Rules.{rules}
 use Rattle.window.specs.Sweep.{fresh}
 use Rattle.window.proofs.clear.Goals as goal
 
 pub returns : goal.returns
 returns c =
-    fresh _ _ _ (search rules) c.clear_lists.ensures c.clear_moves.ensures
+    fresh _ _ _ c.told-part c.clear_lists.ensures c.clear_moves.ensures

@@ -7,14 +7,13 @@ use Rattle.window.proofs.keep.Goals as goal
 
 pub returns-in-Ok-Percentile : goal.returns-in-Ok-Percentile
 returns-in-Ok-Percentile c =
-    let ready = c.requires.0.ready in
-    let code : code_in (slot_of c.args.part.now c.args.k) ≡ 5 = search rules in
-    kept_values _ _ _ _ _ ready.size ready.slot code c.keep_values.ensures
+    let code : code_in (slot_of c.args.part.now c.args.k.number) ≡ 5 = search rules in
+    kept_values _ _ _ _ _ c.told-part c.args.k.within code c.keep_values.ensures
 
-pub returns : goal.returns
-returns c =
+pub returns-in-Ok-Count : goal.returns-in-Ok-Count
+returns-in-Ok-Count c =
     kept_plain _ _ _ _ (λ h. search rules) (λ h. search rules) (λ h. search rules)
 
-pub returns-2 : goal.returns-2
-returns-2 c =
+pub returns-in-Err : goal.returns-in-Err
+returns-in-Err c =
     kept_plain _ _ _ _ (λ h. search rules) (λ h. search rules) (λ h. search rules)

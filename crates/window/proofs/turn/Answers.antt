@@ -26,9 +26,9 @@ keep-requires c = (
 pub roll-requires : goal.roll-requires
 roll-requires c =
     record {
-      size = c.keep.auto.part ∙ c.requires.0;
-      slot = c.requires.1;
-      rollable = (c.rollable.ensures.sound c.if-not-rollable.false);
+      size = c.keep.array_long;
+      slot = c.args.k.within;
+      rollable = c.rollable.ensures.sound c.if-not-rollable.false;
       small = c.read_change-c.ensures.small;
     }
 

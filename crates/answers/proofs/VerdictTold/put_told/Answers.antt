@@ -1,5 +1,6 @@
 -- `put_told` of a verdict meets its contract. Assumes nothing.
-use mathlib.Core.Path.{◌∙◌}
+use mathlib.Core.Path.{◌≡◌, ◌∙◌}
+use borrow.Author.Rules.{rules}
 use Rattle.model.specs.Answers.{finding_code}
 use Rattle.model.specs.Numbers.{bit}
 use Rattle.answers.specs.Answers.{encode}
@@ -10,6 +11,7 @@ pub returns : goal.returns
 unfolding encode
 returns c =
     let x = c.args in
+    let exceeded : c.from.result ≡ bit x.self.exceeded = search rules in
     c.put_le.ensures
-    ∙ rw (c.put-3.ensures, c.put-2.ensures, c.put.ensures, c.from.ensures, c.bit.ensures.0)
+    ∙ rw (c.put-3.ensures, c.put-2.ensures, c.put.ensures, exceeded, c.from-3.ensures, c.from-2.ensures)
     (byte_fields x.out.now x.at x.self.broken (bit x.self.exceeded) (finding_code x.self.finding) (bit_below x.self.exceeded))

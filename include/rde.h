@@ -23,7 +23,7 @@
  *     rde_area_len  8
  *     rde_clear     8
  *     rde_declare   56
- *     rde_sample    296
+ *     rde_sample    272
  *     rde_close     8
  *     rde_read      8
  *     rde_verdict   392

@@ -263,7 +263,7 @@ def faults(source):
     asked = source.callers(SIDE)
     yield None if len(asked) == len(CLASSES) else '%s is called %d times' % (SIDE, len(asked))
     for name, field in CLASSES.items():
-        times = sum(call.arguments == [name, ',', 't', '.', 'tally', '.', field] for call in asked)
+        times = sum(call.arguments == [name, ',', 't', '.', 'tally', '.', 'classes', '.', field] for call in asked)
         yield None if times == 1 else '%s is called %d times for %s' % (SIDE, times, field)
     for name in NAMED:
         calls = sum(name in (call.callee, call.callee.split('::')[-1]) for call in source.calls)
@@ -295,7 +295,7 @@ def way(source):
 WALK = 'let v = speeds.at(i);'
 BOUNDS = 'acceleration::bounds_of(limits_of(t))'
 BROKEN = 'let b = broken(trip, Speeds { bytes: speeds, n }, e);'
-URBAN = 'limits::limit_of(SpeedClass::Urban, t.tally.urban)'
+URBAN = 'limits::limit_of(SpeedClass::Urban, t.tally.classes.urban)'
 IN_CLASS = '// Whether a speed is of a class.'
 FIRST = '// The speed of second n goes after the first n.'
 MODEL = 'use model::{'
@@ -315,10 +315,10 @@ WRONG = [
     ('the limits are reckoned twice', 'power', BOUNDS,
      BOUNDS + ', crate::limits_of(t)',
      'power::limits_of is called 2 times'),
-    ("a class by another's tally", 'power', '(SpeedClass::Rural, t.tally.rural)',
-     '(SpeedClass::Rural, t.tally.urban)',
+    ("a class by another's tally", 'power', '(SpeedClass::Rural, t.tally.classes.rural)',
+     '(SpeedClass::Rural, t.tally.classes.urban)',
      'limits::limit_of is called 0 times for rural'),
-    ('a class is left out', 'power', 'limits::limit_of(SpeedClass::Rural, t.tally.rural)',
+    ('a class is left out', 'power', 'limits::limit_of(SpeedClass::Rural, t.tally.classes.rural)',
      URBAN,
      'limits::limit_of is called 0 times for rural'),
     ('another function takes a slope', 'limits', IN_CLASS,
@@ -355,10 +355,10 @@ WRONG = [
      'const SCALE: u64 = 2592;',
      '2592 stands in limits::limit_of, power::(outside its functions)'),
     ('another crate asks, by an import', 'rule', MODEL,
-     'use limits::limit_of as side; fn f(t: TripTally) -> u64 { side(SpeedClass::Urban, t.tally.urban) } ' + MODEL,
+     'use limits::limit_of as side; fn f(t: TripTally) -> u64 { side(SpeedClass::Urban, t.tally.classes.urban) } ' + MODEL,
      'limits::limit_of is called by power::limits_of, rule::f'),
     ('a crate has another name', 'rule', MODEL,
-     'use limits as l; fn f(t: TripTally) -> u64 { l::limit_of(SpeedClass::Urban, t.tally.urban) } ' + MODEL,
+     'use limits as l; fn f(t: TripTally) -> u64 { l::limit_of(SpeedClass::Urban, t.tally.classes.urban) } ' + MODEL,
      'limit_of is named 4 times and called 3'),
     ('a function is named and not called', 'power', FIRST,
      'fn f() { let side = limits::limit_of; }',

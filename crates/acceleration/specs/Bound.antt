@@ -11,8 +11,8 @@ use Rattle.std.proofs.Math.Decide.{dec_lt}
 use Rattle.std.specs.Int.Signed.{lt_z}
 use Rattle.model.specs.declared.SpeedClass.{SpeedClass}
 use Rattle.limits.specs.declared.PowerLimit.{PowerLimit}
-use Rattle.limits.specs.declared.per_class.PerClass.{PerClass}
-use Rattle.limits.specs.PerClass.{value_in}
+use Rattle.model.specs.declared.per_class.PerClass.{PerClass}
+use Rattle.model.specs.PerClass.{value_in}
 use Rattle.acceleration.specs.declared.Power.{Power}
 
 -- a power beyond a limit

@@ -18,8 +18,8 @@ use Rattle.model.specs.Records.{tenths}
 use Rattle.laws.specs.Order.{ltb_leb}
 use Rattle.laws.specs.Tests.{both, not_not}
 use Rattle.limits.specs.declared.PowerLimit.{PowerLimit}
-use Rattle.limits.specs.declared.per_class.PerClass.{PerClass}
-use Rattle.limits.specs.PerClass.{value_in}
+use Rattle.model.specs.declared.per_class.PerClass.{PerClass}
+use Rattle.model.specs.PerClass.{value_in}
 use Rattle.limits.specs.Class.{class_of, same_class}
 use Rattle.acceleration.specs.declared.Rise.{Rise}
 use Rattle.acceleration.specs.declared.Power.{Power}

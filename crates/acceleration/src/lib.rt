@@ -8,8 +8,8 @@ ghost use Rattle.model.specs.Records.{max_samples, tenths};
 ghost use Rattle.acceleration.specs.Bound.{BoundOf, BoundsOf};
 ghost use Rattle.acceleration.specs.Sample.{acceleration_of, rise_of, accelerates, within, Most, MostCounts, raised, counted, no_counts};
 
-use limits::{PerClass, PowerLimit};
-use model::{Speed, SpeedClass};
+use limits::PowerLimit;
+use model::{PerClass, Speed, SpeedClass};
 
 // Next speed − previous speed, in tenths of km/h.
 #[derive(Clone, Copy)]
@@ -57,7 +57,8 @@ fn acceleration_of(next: Speed, previous: Speed) -> Acceleration
     Acceleration(i64::from(next.0) - i64::from(previous.0))
 }
 
-// The speeds are compared, and not A with 0, so that the compiled walk keeps to 16 bits.
+// The speeds are compared, and not A with 0, so that the compiled walk keeps to 16 bits. By A, and not by `saturating_sub`: signed accelerations are a
+// form that the project asks for.
 pub fn rise_of(next: Speed, previous: Speed) -> Rise
     ensures { result ≡ rise_of next previous }
 {
@@ -111,15 +112,10 @@ pub fn count_sample(k: Counts, b: PerClass<Power>, v: Speed, rise: Rise) -> Coun
     }
 }
 
-// Three zeros by name: with `PerClass::of(|_| 0)`, tried, the proof did not close by itself.
 pub fn no_counts() -> Counts
     ensures { result ≡ no_counts }
 {
-    let none = PerClass {
-        urban: 0,
-        rural: 0,
-        motorway: 0,
-    };
+    let none = PerClass::of(|_| 0);
     Counts {
         accelerating: none,
         within: none,

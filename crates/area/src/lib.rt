@@ -73,7 +73,10 @@ pub fn is_closed(area: &Area) -> bool
 pub fn read_tally(area: &Area) -> Tally
     ensures { result ≡ tally_from (tally_in (parts_of area.now)) }
 {
-    tally_bytes::read(area, TALLY)
+    let Some(tally) = area[TALLY..ALTITUDES].as_array() else {
+        unreachable!()
+    };
+    tally_bytes::read(tally)
 }
 
 pub fn write_tally(area: &mut Area, t: Tally)
@@ -94,7 +97,6 @@ fn add_to(tally: &mut [u8], s: Sample)
 
 // The sample is added to the tally, where that is sound. By a function of its own: what is written to an array within a part of the area is not known
 // once its loan ends.
-#[inline(always)]
 pub fn add_sample(area: &mut Area, s: Sample)
     ensures { Changed tally_part (Added s) (parts_of area.old) (parts_of area.new) }
 {

@@ -16,7 +16,6 @@ use slots::{Part, Slot};
 
 // The windows take the sample of second n. Each function that writes takes the part by itself: Rattle proves of no function that it lends a `&mut` part
 // of an array.
-#[inline(always)]
 pub fn step_windows(area: &mut Area, k: usize, n: u16, record: &[u8; RECORD_LEN])
     requires { (k ≤ max_windows) × (n < max_samples) }
     ensures { Changed slots_part (Stepped k n «record».now) (parts_of area.old) (parts_of area.new) }
@@ -27,7 +26,6 @@ pub fn step_windows(area: &mut Area, k: usize, n: u16, record: &[u8; RECORD_LEN]
     window::step(part, k, n, record);
 }
 
-#[inline(always)]
 pub fn add_window(area: &mut Area, k: Slot, record: &[u8; RECORD_LEN])
     ensures { Changed slots_part (Added k.number «record».now) (parts_of area.old) (parts_of area.new) }
 {
@@ -62,7 +60,6 @@ pub fn read_window(area: &Area, k: Slot) -> Option<i64>
 }
 
 // The moves counted since the last clear.
-#[inline(always)]
 pub fn moves(area: &Area) -> i64
     ensures { CountedMoves (parts_of area.now) result }
 {

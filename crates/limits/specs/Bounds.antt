@@ -16,10 +16,10 @@ pub record BoundedClass (t : ClassTally) : Type 0 where
 
 -- the tally of a trip
 pub record BoundedTally (t : Tally) : Type 0 where
-  pub urban : BoundedClass t.urban
-  pub rural : BoundedClass t.rural
-  pub motorway : BoundedClass t.motorway
-  pub distance : units t.urban.distance + units t.rural.distance + units t.motorway.distance ≤ most_distance
+  pub urban : BoundedClass t.classes.urban
+  pub rural : BoundedClass t.classes.rural
+  pub motorway : BoundedClass t.classes.motorway
+  pub distance : units t.classes.urban.distance + units t.classes.rural.distance + units t.classes.motorway.distance ≤ most_distance
   pub stops : t.stops ≤ max_samples
   pub over145 : t.over145 ≤ max_samples
   pub nox : nat_abs t.nox ≤ most_nox

@@ -2,4 +2,3 @@ pub mod Table
 pub mod Class
 pub mod Line
 pub mod Bounds
-pub mod PerClass

@@ -8,11 +8,9 @@ ghost use Rattle.limits.specs.Class.{class_of, same_class};
 ghost use Rattle.limits.specs.Line.{line_of, limit_of};
 ghost use Rattle.limits.specs.Bounds.{BoundedClass};
 
-mod per_class;
 mod trip_tally;
 
 use model::{ClassTally, Distance, Speed, SpeedClass};
-pub use per_class::PerClass;
 pub use trip_tally::TripTally;
 
 // The two percentile lines: up to a mean of 74.6 km/h, and above it.
@@ -160,7 +158,8 @@ fn line_of(samples: u64, distance: Distance) -> Line
 }
 
 // The right side of rules 18 to 20 of a class with N samples and distance S, and beside it the left side's factor × N. No other function reckons
-// either; a verdict asks for them once for each class, and no loop does (tests/limit_side.py).
+// either; a verdict asks for them once for each class, and no loop does (tests/limit_side.py). A class and its tally are no struct: it would be made for
+// each call and taken apart in it; `BoundedClass` is asked of one class of a `TripTally`, here and by rule::share_outside alone.
 #[tactic(auto, using(crate::specs::Line::power_factor_lem, crate::specs::Line::limit_side_lem), unfolding(crate::specs::Line::limit_of))]
 pub fn limit_of(c: SpeedClass, t: ClassTally) -> PowerLimit
     requires { BoundedClass t }

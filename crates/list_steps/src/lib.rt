@@ -29,20 +29,14 @@ fn displaced(part: &Part, k: Slot, extreme: Extreme, new: i64, second: u16) -> b
 }
 
 // The first entry goes where a window of width w leaves it behind as this second comes. `Fit` is a clause, as at lists::append.
+#[tactic(auto, using(crate::specs::Steps::not_left_behind, crate::specs::Steps::left_behind))]
 fn age(part: &mut Part, k: Slot, w: u16, second: u16)
     requires { Fit part.old k.number }
     ensures { Became k.number part.old part.new (aged w second (list_of part.old k.number)) 0 }
 {
-    if second < w {
-        return;
+    if slots::number(part, k) != 0 && second.checked_sub(w) == Some(lists::entry(part, k, 0)) {
+        lists::remove(part, k, End::Front);
     }
-    if slots::number(part, k) == 0 {
-        return;
-    }
-    if lists::entry(part, k, 0) != second - w {
-        return;
-    }
-    lists::remove(part, k, End::Front);
 }
 
 // Those at the back that the new value displaces go.

@@ -1,3 +1,4 @@
+pub mod PerClass
 pub mod Numbers
 pub mod Records
 pub mod Windows

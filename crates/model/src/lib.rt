@@ -6,6 +6,10 @@ ghost use Rattle.model.specs.Numbers.{bit};
 ghost use Rattle.model.specs.Answers.{refusal_number, finding_code};
 ghost use Rattle.model.specs.Records.{function_read};
 
+mod per_class;
+
+pub use per_class::PerClass;
+
 // Bytes of a sample record and of a window record.
 pub const RECORD_LEN: usize = 16;
 
@@ -92,9 +96,7 @@ pub struct ClassTally {
 // What the rules need of a list of samples, but for the accelerations and the first and last altitude.
 #[derive(Clone, Copy)]
 pub struct Tally {
-    pub urban: ClassTally,
-    pub rural: ClassTally,
-    pub motorway: ClassTally,
+    pub classes: PerClass<ClassTally>,
     // Samples below 1 km/h.
     pub stops: u64,
     // Samples above 100 km/h.

@@ -1,6 +1,7 @@
 // Values kept in order in a store of four-byte cells, for the percentile of a window.
 // A store goes with its number m of values, here and in rolling::restock: memory is fixed (no Vec), a store has room for the values of the widest
-// window, and m stands in the window's slot. What only reads takes the first m values as a slice.
+// window, and m stands in the window's slot. What only reads takes the first m values as a slice;
+// what writes takes the store, as `insert` has to: restock calls one of the three.
 #![tactic(auto)]
 
 ghost use Rattle.std.specs.Prelude.{◌+◌, ◌*◌, ◌≤◌, length};

@@ -14,8 +14,8 @@ use Rattle.model.specs.Numbers.{bit, range, count}
 use Rattle.model.specs.Records.{tenths}
 use Rattle.laws.specs.Lists.{range_snoc, count_append}
 use Rattle.limits.specs.declared.PowerLimit.{PowerLimit}
-use Rattle.limits.specs.declared.per_class.PerClass.{PerClass}
-use Rattle.limits.specs.PerClass.{value_in}
+use Rattle.model.specs.declared.per_class.PerClass.{PerClass}
+use Rattle.model.specs.PerClass.{value_in}
 use Rattle.limits.specs.Line.{limit_of}
 use Rattle.acceleration.specs.declared.Counts.{Counts}
 use Rattle.acceleration.specs.declared.Power.{Power}
@@ -26,7 +26,7 @@ use Rattle.power.specs.Speeds.{speed_in, speed_before_in, acceleration_in, speed
 
 -- the limits of a trip's classes
 unfoldable pub limits_of : Tally → PerClass PowerLimit
-limits_of t = record { urban = limit_of t.urban; rural = limit_of t.rural; motorway = limit_of t.motorway }
+limits_of t = record { urban = limit_of t.classes.urban; rural = limit_of t.classes.rural; motorway = limit_of t.classes.motorway }
 
 -- second i is an accelerating one of the class, and its power is not beyond the limit
 abbrev pub accelerates_at : SpeedClass → List ℕ → ℕ → Bool

@@ -30,7 +30,7 @@ use Rattle.limits.specs.Line.{limit_of}
 use Rattle.slide.specs.Percentile.{Upward, passes}
 use Rattle.slide.proofs.Percentile.{percentile_passes}
 use Rattle.limits.specs.declared.PowerLimit.{PowerLimit}
-use Rattle.limits.specs.declared.per_class.PerClass.{PerClass}
+use Rattle.model.specs.declared.per_class.PerClass.{PerClass}
 use Rattle.acceleration.specs.declared.Counts.{Counts}
 use Rattle.acceleration.specs.Bound.{beyond}
 use Rattle.acceleration.specs.Sample.{power_of, accelerates_in, within_in}

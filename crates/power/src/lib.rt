@@ -10,8 +10,8 @@ ghost use Rattle.power.specs.Dynamics.{power_rule, class_mask, dynamics_rules};
 mod speeds;
 
 use acceleration::{Counts, Power};
-use limits::{PerClass, PowerLimit, TripTally};
-use model::{Speed, SpeedClass};
+use limits::{PowerLimit, TripTally};
+use model::{PerClass, Speed, SpeedClass};
 pub use speeds::Speeds;
 
 // The speed of second n goes after the first n.
@@ -30,9 +30,9 @@ fn limits_of(t: TripTally) -> PerClass<PowerLimit>
     ensures { result ≡ limits_of t.tally }
 {
     PerClass {
-        urban: limits::limit_of(SpeedClass::Urban, t.tally.urban),
-        rural: limits::limit_of(SpeedClass::Rural, t.tally.rural),
-        motorway: limits::limit_of(SpeedClass::Motorway, t.tally.motorway),
+        urban: limits::limit_of(SpeedClass::Urban, t.tally.classes.urban),
+        rural: limits::limit_of(SpeedClass::Rural, t.tally.classes.rural),
+        motorway: limits::limit_of(SpeedClass::Motorway, t.tally.classes.motorway),
     }
 }
 

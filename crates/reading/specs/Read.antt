@@ -2,7 +2,7 @@
 --     Reads                       what a reading ensures
 --     reads_count .. reads_percentile, reads_unfit, reads_none, reads_other     one law for each return
 -- Assumes nothing.
-use Rattle.std.specs.Prelude.{Bool, true, false, ◌≡◌, ℕ, zero, suc, ◌^◌, ◌≤◌, ◌<◌, ℤ, pos}
+use Rattle.std.specs.Prelude.{Bool, true, false, ◌≡◌, ℕ, zero, suc, ◌^◌, ◌≤◌, ◌<◌, ℤ, pos, FitsSigned}
 use Rattle.std.proofs.lemmas.Bool.{false≢true}
 use mathlib.Core.List.{List}
 use Rattle.std.specs.Prelude.{Option, None, Some}
@@ -16,6 +16,11 @@ use Rattle.model.specs.Records.{record_length, max_windows, max_width, functions
 use Rattle.model.specs.Windows.{value_at, held, keeps_entries, reading}
 use Rattle.model.specs.declared.Function.TheVariants.{Count}
 use Rattle.model.specs.declared.Sample.{Sample}
+use mir.Syntax.{w64}
+use Rattle.std.specs.Int.{CanDivide, int_div_euclid}
+use Rattle.std.specs.Option.{SomeIff}
+use Rattle.std.proofs.lemmas.Int.{ints, quot_fits}
+use Rattle.laws.specs.Signed.{floor_euclid}
 use Rattle.cells.specs.Store.{values_of}
 use Rattle.laws.specs.Tests.{both}
 use Rattle.slide.specs.Held.{held_within, reading_first, reading_unheld}
@@ -89,6 +94,13 @@ module _ (k : ℕ) (p : List ℕ) where
       needed (suc (suc (suc (suc zero)))) h l = unfold needs_values in refl
       needed (suc (suc (suc (suc (suc zero))))) h l = unfold needs_values in refl
       needed (suc (suc (suc (suc (suc (suc m)))))) h l = absurd (omega arith)
+
+  -- the library's quotient, which is none exactly where the count is 0
+  pub reads_quotient : (r : Option ℤ) → code_in (slot_of p k) ≡ 4 → (z : ℤ) (m : ℕ) → z ≡ sum_in (slot_of p k) → m ≡ count_in (slot_of p k) → FitsSigned w64 z
+      → SomeIff r (CanDivide w64 z (pos m)) (int_div_euclid z (pos m)) → Reads k p r
+  reads_quotient (Some r) e z m f count fits h = reads_average m count (omega (arith, h.0.0)) r e z f (h.1 ∙ floor_euclid z m)
+  reads_quotient None e z zero f count fits h = reads_none (omega arith) (omega arith) (sym count)
+  reads_quotient None e z (suc m) f count fits h = absurd (h (omega arith, quot_fits w64 z (pos (suc m)) fits (omega (arith, ints))))
 
   -- no more than max_width values are in view
   pub reads_beyond : (r : Option ℤ) → max_width < count_in (slot_of p k) → Reads k p r

@@ -26,18 +26,15 @@ fn first_value(part: &Part, k: Slot, extreme: Extreme) -> Option<i64>
     Some(slots::value(part, k, second))
 }
 
-// The sum by the count, rounded down. It begins as `percentile` does: a function for the test of the count would be longer than the two.
+// The sum by the count, rounded down; none where the count is 0.
 fn average(part: &Part, k: Slot) -> Option<i64>
     requires { code_in (slot_of part.now k.number) ≡ 4 }
     ensures { Reads k.number part.now result }
 {
-    let count = slots::count(part, k);
-    if count == 0 {
-        return None;
-    }
-    Some(slots::sum(part, k).div_euclid(i64::from(count)))
+    slots::sum(part, k).checked_div_euclid(i64::from(slots::count(part, k)))
 }
 
+// The percentile; none for a count of 0, or of more than a window holds. `as`: there is no `From` of a u32 for usize.
 fn percentile(part: &Part, k: Slot) -> Option<i64>
     requires { code_in (slot_of part.now k.number) ≡ 5 }
     ensures { Reads k.number part.now result }
@@ -54,7 +51,7 @@ fn percentile(part: &Part, k: Slot) -> Option<i64>
     Some(i64::from(cells::percentile(&store[..4 * count as usize])))
 }
 
-// What window k reads; none where no sample in it qualifies.
+// What window k reads; none where no sample in it qualifies. A match: the functions are closed, and each reads something else.
 pub fn read(part: &Part, k: Slot) -> Option<i64>
     ensures { Reads k.number part.now result }
 {

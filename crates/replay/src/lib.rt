@@ -54,6 +54,7 @@ fn perform(area: &mut [u8], call: Call, out: &mut [u8], at: usize)
 pub fn replay(area: &mut [u8], script: &[u8], out: &mut [u8]) -> Progress
     ensures { Replayed script.now area.old out.old result area.new out.new }
 {
+    // What is answered, and no index.
     let mut made = 0;
     // A place, and no chunks of `out`: what is written to a chunk is not known once its loan ends.
     let mut written = 0;

@@ -76,10 +76,7 @@ What goes wrong is told on standard error, with no report. The exit status is 0 
 // for a name that is too long and for one that is not text.
 fn has_argument(rt: &impl Env, i: usize) -> bool {
     let mut byte = [0u8; 1];
-    match rt.arg(i, &mut byte) {
-        Err(FillError::NotPresent) => false,
-        _ => true,
-    }
+    !matches!(rt.arg(i, &mut byte), Err(FillError::NotPresent))
 }
 
 fn main(rt: HostRuntime) {

@@ -22,7 +22,7 @@ use Rattle.limits.specs.Table.{row_of, share_low, share_high}
 
 -- D of a tally
 abbrev pub distance_of : Tally → Distance
-distance_of t = record { 0 = units t.urban.distance + units t.rural.distance + units t.motorway.distance }
+distance_of t = record { 0 = units t.classes.urban.distance + units t.classes.rural.distance + units t.classes.motorway.distance }
 
 -- NOx above the limit
 abbrev pub exceeded_by : Tally → Bool
@@ -43,26 +43,26 @@ length_rules n = ltb n 5400 ∷ ltb 7200 n ∷ []
 -- rules 2 to 4
 abbrev pub share_rules : Tally → List Bool
 share_rules t =
-    share_rule Urban t.urban (distance_of t)
-    ∷ share_rule Rural t.rural (distance_of t)
-    ∷ share_rule Motorway t.motorway (distance_of t)
+    share_rule Urban t.classes.urban (distance_of t)
+    ∷ share_rule Rural t.classes.rural (distance_of t)
+    ∷ share_rule Motorway t.classes.motorway (distance_of t)
     ∷ []
 
 -- rules 5 to 7
 abbrev pub distance_rules : Tally → List Bool
-distance_rules t = distance_rule t.urban ∷ distance_rule t.rural ∷ distance_rule t.motorway ∷ []
+distance_rules t = distance_rule t.classes.urban ∷ distance_rule t.classes.rural ∷ distance_rule t.classes.motorway ∷ []
 
 -- rules 8 to 10
 abbrev pub urban_rules : Tally → List Bool
 urban_rules t =
-    outside (6 * t.urban.samples) (30 * t.urban.samples) (100 * t.stops)
-    ∷ outside (150 * t.urban.samples) (400 * t.urban.samples) (units t.urban.distance)
+    outside (6 * t.classes.urban.samples) (30 * t.classes.urban.samples) (100 * t.stops)
+    ∷ outside (150 * t.classes.urban.samples) (400 * t.classes.urban.samples) (units t.classes.urban.distance)
     ∷ ltb t.over100 300
     ∷ []
 
 -- rules 11 to 14
 abbrev pub count_rules : Tally → List Bool
-count_rules t = ltb 0 t.over160 ∷ ltb (3 * t.motorway.samples) (100 * t.over145) ∷ ltb 0 t.temperature ∷ ltb 0 t.altitude ∷ []
+count_rules t = ltb 0 t.over160 ∷ ltb (3 * t.classes.motorway.samples) (100 * t.over145) ∷ ltb 0 t.temperature ∷ ltb 0 t.altitude ∷ []
 
 -- how many they are
 abbrev pub tally_rule_count : ℕ

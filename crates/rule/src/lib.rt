@@ -10,7 +10,7 @@ ghost use Rattle.limits.specs.Bounds.{BoundedClass};
 ghost use Rattle.rule.specs.TallyRules.{exceeded_by, distance_of, share_rule, length_rules, share_rules, distance_rules, urban_rules, count_rules, tally_rules, tally_rule_count};
 
 use limits::TripTally;
-use model::{ClassTally, Distance, SpeedClass, Tally};
+use model::{ClassTally, Distance, PerClass, SpeedClass, Tally};
 
 // 16 km, the least distance of a class.
 const LEAST_DISTANCE: u64 = 576000;
@@ -38,15 +38,15 @@ fn length_rules(n: usize) -> u32
     model::bit(n < 5400) + 2 * model::bit(7200 < n)
 }
 
+// D, each class named: a sum is no plainer over a `PerClass`.
 fn total_distance(t: TripTally) -> Distance
     ensures { (result ≡ distance_of t.tally) × (units result ≤ most_distance) }
 {
-    let urban = t.tally.urban.distance.0;
-    let rural = t.tally.rural.distance.0;
-    let motorway = t.tally.motorway.distance.0;
-    Distance(urban + rural + motorway)
+    let k = t.tally.classes;
+    Distance(k.urban.distance.0 + k.rural.distance.0 + k.motorway.distance.0)
 }
 
+// Whether a class's share is outside its limits. A class, its tally and `BoundedClass`: as at limits::limit_of.
 #[tactic(auto, using(limits::specs::Table::share_most))]
 fn share_outside(c: SpeedClass, t: ClassTally, total: Distance) -> bool
     requires { BoundedClass t × (units total ≤ most_distance) }
@@ -65,32 +65,27 @@ fn share_rules(t: TripTally) -> u32
     ensures { (result ≡ mask (share_rules t.tally)) × (result ≤ 7) }
 {
     let d = total_distance(t);
-    bits(
-        share_outside(SpeedClass::Urban, t.tally.urban, d),
-        share_outside(SpeedClass::Rural, t.tally.rural, d),
-        share_outside(SpeedClass::Motorway, t.tally.motorway, d),
-    )
+    let outside = PerClass::of(|c| share_outside(c, t.tally.classes.get(c), d));
+    bits(outside.urban, outside.rural, outside.motorway)
 }
 
-// Rules 5, 6 and 7.
+// Rules 5, 6 and 7, of a `Tally`: no bound is needed.
 fn distance_rules(t: Tally) -> u32
     ensures { (result ≡ mask (distance_rules t)) × (result ≤ 7) }
 {
-    bits(
-        t.urban.distance.0 < LEAST_DISTANCE,
-        t.rural.distance.0 < LEAST_DISTANCE,
-        t.motorway.distance.0 < LEAST_DISTANCE,
-    )
+    let short = PerClass::of(|c| t.classes.get(c).distance.0 < LEAST_DISTANCE);
+    bits(short.urban, short.rural, short.motorway)
 }
 
 // Rules 8, 9 and 10.
 fn urban_rules(t: TripTally) -> u32
     ensures { (result ≡ mask (urban_rules t.tally)) × (result ≤ 7) }
 {
-    let n = t.tally.urban.samples;
+    let urban = t.tally.classes.urban;
+    let n = urban.samples;
     bits(
         outside(6 * n, 30 * n, 100 * t.tally.stops),
-        outside(150 * n, 400 * n, t.tally.urban.distance.0),
+        outside(150 * n, 400 * n, urban.distance.0),
         t.tally.over100 < 300,
     )
 }
@@ -102,7 +97,7 @@ fn count_rules(t: TripTally) -> u32
 {
     bits(
         0 < t.tally.over160,
-        3 * t.tally.motorway.samples < 100 * t.tally.over145,
+        3 * t.tally.classes.motorway.samples < 100 * t.tally.over145,
         0 < t.tally.temperature,
     ) + 8 * model::bit(0 < t.tally.altitude)
 }

@@ -172,19 +172,12 @@ pub fn qualifies(part: &Part, k: Slot, second: u16) -> bool
     (low <= v) & (v <= high)
 }
 
-// A record is copied as two numbers of eight bytes: 2.0 ns, and 2.7 ns by copy_from_slice, which asks whether the two overlap. That would take a
-// sample without windows, 1.24 to 1.45 times as long as in C, past the bar of 1.5.
-const WORD_LEN: usize = 8;
-
 // A record's bytes go to `at`.
 fn copy_record(part: &mut Part, at: usize, bytes: &[u8; RECORD_LEN])
     requires { at + record_length ≤ part_len }
     ensures { part.new ≡ put part.old at bytes.now }
 {
-    let front: u64 = field::get(bytes, 0);
-    let back: u64 = field::get(bytes, WORD_LEN);
-    field::put(part, at, front);
-    field::put(part, at + WORD_LEN, back);
+    part[at..at + RECORD_LEN].copy_from_slice(bytes);
 }
 
 // The ring's place of a second takes a record.

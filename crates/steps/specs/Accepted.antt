@@ -146,7 +146,7 @@ module _ {s s' : List ℕ} (size' : length s' ≡ area_len) where
       (λ t st.
       let h = st.holds in (
         closed t,
-        close_left m free t st,
+        close_left free t st,
         record {
           size = size';
           holds = record {
@@ -198,7 +198,7 @@ module _ {s : List ℕ} (m : Marked s) (k : ℕ) (h : k < window_count (parts_of
 
   told_left : (o : Option ℤ) → Reads k (slots_in (parts_of s)) o → (t : Trip) → Stands s t → outcome t (read k) ≡ told t o
   unfolding window_at
-  told_left o r t st = read_left m k h t st ∙ ap (told t) (sym (r.on t.windows t.samples st.holds.slots (there t st)))
+  told_left o r t st = read_left k h t st ∙ ap (told t) (sym (r.on t.windows t.samples st.holds.slots (there t st)))
 
   pub read_done : (o : Option ℤ) → Reads k (slots_in (parts_of s)) o → Step (read k) s (answer_of (ok_or o NoneQualifies)) s
   unfolding told

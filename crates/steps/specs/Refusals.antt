@@ -1,6 +1,6 @@
 -- Each refusal of each call, in the order of document 01, as a law on the area's parts: what the tests before it found, and the test that refuses.
 -- Assumes nothing.
-use Rattle.std.specs.Prelude.{true, false, cond, not, List, ◌≡◌, ℕ, ℤ, ◌≤◌, ◌<◌, pos, length, ⊤, Some, None, Result, Ok, Err}
+use Rattle.std.specs.Prelude.{true, false, cond, not, eqb, List, ◌∷◌, ◌≡◌, ℕ, ℤ, ◌≤◌, ◌<◌, pos, length, ⊤, Some, None, Result, Ok, Err}
 use Rattle.std.proofs.Math.Path.{refl, sym}
 use Rattle.std.proofs.Common.{◌∙◌, arith}
 use borrow.Author.Tests.{ne_eqb, eq-eqb, le-leb, lt-leb, lt-ltb, le-ltb}
@@ -10,8 +10,9 @@ use Rattle.model.specs.Answers.{refusal_number}
 use Rattle.model.specs.Numbers.{le_at}
 use Rattle.model.specs.Records.{record_length, max_samples, max_windows, sample_of, in_range, window_of, layout_kept}
 use Rattle.model.specs.Windows.{reading}
-use Rattle.model.specs.Refusals.{unless, sample_refusals, declare_refusals, close_refusals, read_refusals}
-use Rattle.model.specs.Trip.{Trip, Call, clear, declare, sample, close, closed, read, verdict, record_of, number, refused, refuse, accept, outcome, move_count, with_sample, with_window, window_at, told}
+use Rattle.model.specs.Refusals as refusals
+use Rattle.model.specs.Refusals.{◌if◌, unless, sample_refusals, declare_refusals, close_refusals, read_refusals}
+use Rattle.model.specs.Trip.{Trip, Call, Outcome, clear, declare, sample, close, closed, read, verdict, record_of, number, refused, refuse, accept, outcome, move_count, with_sample, with_window, window_at, told}
 use Rattle.area.specs.Layout.{area_len, parts_of, sample_count, closed_mark, window_count, format_mark, format_number}
 use Rattle.area.specs.Stands.{Stands}
 use Rattle.taking.specs.Effects.{number_fine}
@@ -43,23 +44,24 @@ pub record Lending (c : Call) (r : List ℕ) : Type 0 where
   pub short : (t : Trip) → (length r ≡ record_length → ⊥) → outcome t c ≡ refuse 1
   pub shut : (t : Trip) → length r ≡ record_length → t.closed ≡ true → outcome t c ≡ refuse 2
 
-pub sample_lending : (r : List ℕ) → Lending (sample r) r
-unfolding record_of outcome unless sample_refusals
-sample_lending r = record {
-  other = sample_other;
-  lent = refl;
-  short = λ t n. simp (ne_eqb (length r) record_length n);
-  shut = λ t l e. simp (eq-eqb (length r) record_length l, e);
+-- a call whose refusals begin with these two
+lends : (c : Call) (r : List ℕ) (others : Trip → List refusals.Refusal) (taken : Trip → Outcome) → (c ≡ clear → ⊥) → record_of c ≡ Some r
+    → ((t : Trip) → outcome t c ≡ unless refuse ((1 if not (eqb (length r) record_length)) ∷ (2 if t.closed) ∷ others t) (taken t)) → Lending c r
+unfolding unless
+lends c r others taken other lent begins = record {
+  other = other;
+  lent = lent;
+  short = λ t n. begins t ∙ simp (ne_eqb (length r) record_length n);
+  shut = λ t l e. begins t ∙ simp (eq-eqb (length r) record_length l, e);
 }
 
+pub sample_lending : (r : List ℕ) → Lending (sample r) r
+unfolding record_of outcome sample_refusals
+sample_lending r = lends (sample r) r _ _ sample_other refl (λ t. refl)
+
 pub declare_lending : (r : List ℕ) → Lending (declare r) r
-unfolding record_of outcome unless declare_refusals
-declare_lending r = record {
-  other = declare_other;
-  lent = refl;
-  short = λ t n. simp (ne_eqb (length r) record_length n);
-  shut = λ t l e. simp (eq-eqb (length r) record_length l, e);
-}
+unfolding record_of outcome declare_refusals
+declare_lending r = lends (declare r) r _ _ declare_other refl (λ t. refl)
 
 -- the area may take the record: neither 11, 1, the lack of the format mark nor 2 refuses it
 pub record Admits (s r : List ℕ) : Type 0 where
@@ -68,28 +70,27 @@ pub record Admits (s r : List ℕ) : Type 0 where
   pub format : format_mark (parts_of s) ≡ format_number
   pub free : closed_mark (parts_of s) ≡ 0
 
--- what is tested first, of any call that lends the record r: the area may take it, or the call is refused
-abbrev pub Admission : (s r : List ℕ) → Result ⊤ Refusal → Type 0
-Admission s r (Ok u) = Admits s r
-Admission s r (Err k) = (c : Call) → Lending c r → Step c s (refused (refusal_number k)) s
+-- what is tested first refuses with k, and that of any call that lends the record r; the area is left as it was
+abbrev pub Rejects : (s r : List ℕ) → Refusal → Type 0
+Rejects s r k = (c : Call) → Lending c r → Step c s (refused (refusal_number k)) s
 
 -- the call lends no record of another length
 lent_whole : {r : List ℕ} → length r ≡ record_length → (c : Call) → Lending c r → WrongRecord c → ⊥
 lent_whole {r} whole c l = whole_lent c r l.lent whole
 
 module _ {s r : List ℕ} (size : length s ≡ area_len) where
-  pub lent_short : (length r ≡ record_length → ⊥) → Admission s r (Err RecordLength)
+  pub lent_short : (length r ≡ record_length → ⊥) → Rejects s r RecordLength
   lent_short n c l = short_step c l.other s size (record { bytes = r; lent = l.lent; other = n }) (λ t st. l.short t n)
 
   module _ (whole : length r ≡ record_length) where
-    pub lent_unmarked : (format_mark (parts_of s) ≡ format_number → ⊥) → Admission s r (Err AreaDamaged)
+    pub lent_unmarked : (format_mark (parts_of s) ≡ format_number → ⊥) → Rejects s r AreaDamaged
     lent_unmarked u c l = unmarked_step c l.other s size (lent_whole whole c l) u
 
     -- the area is found to stand for no trip
-    pub lent_damaged : ((t : Trip) → Stands s t → ⊥) → Admission s r (Err AreaDamaged)
+    pub lent_damaged : ((t : Trip) → Stands s t → ⊥) → Rejects s r AreaDamaged
     lent_damaged g c l = damaged_step c l.other s size (lent_whole whole c l) g
 
-    pub lent_closed : format_mark (parts_of s) ≡ format_number → (closed_mark (parts_of s) ≡ 0 → ⊥) → Admission s r (Err TripClosed)
+    pub lent_closed : format_mark (parts_of s) ≡ format_number → (closed_mark (parts_of s) ≡ 0 → ⊥) → Rejects s r TripClosed
     lent_closed f m c l =
         refused_step c l.other s size (lent_whole whole c l) f 2 refl (λ t st. l.shut t whole (marked t.closed (λ z. m (st.holds.mark ∙ z))))
 
@@ -231,10 +232,11 @@ module _ {s : List ℕ} (m : Marked s) where
       refused_step (read k) read_other s m.size (unlent (read k) (read_unlending k).unlent) m.format 9 refl
       (λ t st. simp (le-leb (length t.windows) k (omega (arith, st.holds.windows))))
 
-  pub close_left : closed_mark (parts_of s) ≡ 0 → (t : Trip) → Stands s t → outcome t close ≡ accept (number (pos 0)) (closed t)
-  unfolding outcome unless close_refusals
-  close_left free t st = simp (unmarked t.closed (sym st.holds.mark ∙ free))
+-- where no refusal is given: the close of an open trip, and the read of a window that is there
+pub close_left : {s : List ℕ} → closed_mark (parts_of s) ≡ 0 → (t : Trip) → Stands s t → outcome t close ≡ accept (number (pos 0)) (closed t)
+unfolding outcome unless close_refusals
+close_left free t st = simp (unmarked t.closed (sym st.holds.mark ∙ free))
 
-  pub read_left : (k : ℕ) → k < window_count (parts_of s) → (t : Trip) → Stands s t → outcome t (read k) ≡ told t (reading (window_at t k) t.samples)
-  unfolding outcome unless read_refusals
-  read_left k h t st = simp (lt-leb (length t.windows) k (omega (arith, st.holds.windows)))
+pub read_left : {s : List ℕ} (k : ℕ) → k < window_count (parts_of s) → (t : Trip) → Stands s t → outcome t (read k) ≡ told t (reading (window_at t k) t.samples)
+unfolding outcome unless read_refusals
+read_left k h t st = simp (lt-leb (length t.windows) k (omega (arith, st.holds.windows)))

@@ -13,7 +13,6 @@ use model::{MAX_WINDOWS, RECORD_LEN, Refusal, Sample};
 
 // The sample of second n and its record go into every part of the area. step_windows and append_speed ask for the bounds of k and n too, on this one
 // way: a type for each would be made here and used there alone.
-#[inline(always)]
 fn store(area: &mut Area, record: &[u8; RECORD_LEN], s: Sample, n: u32, k: u32)
     requires { (k ≤ max_windows) × (n < max_samples) }
     ensures { TakenSound k n «record».now s (parts_of area.old) (parts_of area.new) }
@@ -25,7 +24,8 @@ fn store(area: &mut Area, record: &[u8; RECORD_LEN], s: Sample, n: u32, k: u32)
     area::set_number(area, Head::Samples, n + 1);
 }
 
-// Takes a sample whose turn it is and answers the moves made so far. Inlined, as `store` is and the record's reading: called, they take longer.
+// Takes a sample whose turn it is and answers the moves made so far. Inlined, as the record's reading is. `store` is called: inlined behind a sample's
+// many tests, what it calls is taken for rare by LLVM, and a sample without windows takes 21.9 ns for 19.5.
 #[inline(always)]
 pub fn take(area: &mut Area, record: &[u8; RECORD_LEN], s: Sample, n: u32) -> Result<i64, Refusal>
     requires { Taking (parts_of area.old) «record».now s n }

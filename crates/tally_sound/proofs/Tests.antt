@@ -6,9 +6,12 @@ use borrow.Author.Tests.{leb-true, le-leb}
 use lib.Dec.{leb}
 use lib.IntN.{ℤ, pos}
 use lib.Signed.{le_z}
+use Rattle.model.specs.declared.per_class.PerClass.{PerClass}
+use Rattle.model.specs.declared.SpeedClass.{SpeedClass}
 use Rattle.model.specs.declared.SpeedClass.TheVariants.{Urban, Rural, Motorway}
 use Rattle.model.specs.declared.Tally.{Tally}
 use Rattle.model.specs.Numbers.{all, withinℤ}
+use Rattle.model.specs.PerClass.{value_in}
 use Rattle.model.specs.Records.{max_samples, max_channel, units}
 use Rattle.model.specs.Tallies.{samples_of, sound}
 use Rattle.laws.specs.Tests.{Each, all_each}
@@ -17,19 +20,17 @@ use Rattle.tally.specs.Sound.{sound_facts}
 use Rattle.tally_sound.specs.Few.{few, Few, sound_few}
 
 -- the tests of `is_sound` are those of `sound`
-pub sound_tests : (t : Tally) (n : ℕ) (u r m : Bool) (z : ℤ)
+pub sound_tests : (t : Tally) (n : ℕ) (k : PerClass Bool) (z : ℤ)
     → n ≡ samples_of t
-    → u ≡ leb (units t.urban.distance) (upper Urban * t.urban.samples)
-    → r ≡ leb (units t.rural.distance) (upper Rural * t.rural.samples)
-    → m ≡ leb (units t.motorway.distance) (upper Motorway * t.motorway.samples)
+    → ((c : SpeedClass) → value_in k c ≡ leb (units (value_in t.classes c).distance) (upper c * (value_in t.classes c).samples))
     → z ≡ pos (max_channel * n)
     → (leb n max_samples
-    && (u && (r && (m
+    && (k.urban && (k.rural && (k.motorway
     && (leb t.stops n && (leb t.over100 n && (leb t.over145 n && (leb t.over160 n
     && (leb t.temperature n && (leb t.altitude n && ((le_z (pos 0) t.nox && le_z t.nox z) && (le_z (pos 0) t.extended && le_z t.extended t.nox))))))))))))
     ≡ sound t
 unfolding sound all withinℤ row_of
-sound_tests t n u r m z e p q s f = rw (f, p, q, s, e, and-true)
+sound_tests t n k z e h f = rw (f, h Urban, h Rural, h Motorway, e, and-true)
 
 -- the first tests as facts
 pub few_facts : (t : Tally) → few t ≡ true → Few t

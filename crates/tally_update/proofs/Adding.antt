@@ -14,11 +14,12 @@ use Rattle.model.specs.Numbers.{le_at, le_bytes, signed, unsigned}
 use Rattle.model.specs.Tallies.{tally_length, words, word, numbers, tally_of, tally_bytes, tally_from, samples_of, join, join_class}
 use Rattle.laws.specs.Signed.{within_positive}
 use Rattle.field.specs.Le.{put_le, le_zero, le_suc, le_put}
-use Rattle.field.specs.Part.{put, put_append, put_whole}
+use Rattle.field.specs.Part.{put, put_whole}
 use Rattle.class_tally.specs.Add.{added_class}
 use Rattle.tally.specs.Add.{added}
 use Rattle.tally.specs.Sound.{Sound, sound_nox, sound_extended}
-use Rattle.tally_bytes.specs.Bytes.{words_length, words_append}
+use Rattle.tally_bytes.specs.Bytes.{words_length}
+use Rattle.tally_bytes.specs.Words.{words_behind}
 use Rattle.tally_update.specs.Raised.{counts_place, nox_place, extended_place, raised, low_sum, class_numbers, Added}
 
 -- the low m bytes of a number, and the n bytes above them
@@ -60,15 +61,6 @@ unfolding low_sum
 sum_behind xs ys a h =
     ap₂ (λ (l m : ℕ). l + 2 ^ 32 * m) (le_put xs 0 ys 4 a (λ x y. omega arith)) (le_put xs 0 ys 2 (a + 4) (λ x y. omega arith))
 
--- the numbers ms are written behind the numbers ns
-words_behind : (xs ns : List ℕ) (a : ℕ) (ms : List ℕ) → a ≡ 8 * length ns → put (put xs 0 (words ns)) a (words ms) ≡ put xs 0 (words (ns ++ ms))
-words_behind xs ns a ms e =
-    let l = words_length ns in
-    let place : a ≡ 0 + length (words ns) = omega arith in
-    ap (λ (b : ℕ). put (put xs 0 (words ns)) b (words ms)) place
-    ∙ put_append xs 0 (words ns) (words ms)
-    ∙ ap (put xs 0) (sym (words_append ns ms))
-
 -- the numbers ns are written, and the sum behind them is raised by z
 sum_more : (xs ns : List ℕ) (a : ℕ) (z : ℤ) → a ≡ 8 * length ns
     → put_le 8 (put xs 0 (words ns)) a (unsigned 8 (pos (low_sum (put xs 0 (words ns)) a) +ℤ z))
@@ -77,7 +69,7 @@ unfolding put_le words le_bytes
 sum_more xs ns a z e =
     let l = words_length ns in
     ap (λ (n : ℕ). put (put xs 0 (words ns)) a (le_bytes 8 (unsigned 8 (pos n +ℤ z)))) (sum_behind xs (words ns) a (omega arith))
-    ∙ words_behind xs ns a (unsigned 8 (pos (low_sum xs a) +ℤ z) ∷ []) e
+    ∙ words_behind xs ns 0 a (unsigned 8 (pos (low_sum xs a) +ℤ z) ∷ []) (omega arith)
 
 -- numbers behind those that are written are as they were
 raised_behind : (xs ys : List ℕ) (a : ℕ) (ns : List ℕ) → length ys ≤ a → raised (put xs 0 ys) a ns ≡ raised xs a ns
@@ -92,7 +84,7 @@ counts_more : (xs ns : List ℕ) (a : ℕ) (ms : List ℕ) → a ≡ 8 * length 
 counts_more xs ns a ms e =
     let l = words_length ns in
     ap (λ (r : List ℕ). put (put xs 0 (words ns)) a (words r)) (raised_behind xs (words ns) a ms (omega arith))
-    ∙ words_behind xs ns a (raised xs a ms) e
+    ∙ words_behind xs ns 0 a (raised xs a ms) (omega arith)
 
 module _ (p : List ℕ) (s : Sample) (u : Tally) (l : length p ≡ tally_length) (one : u ≡ tally_of (s ∷ [])) where
   -- the counts of u, and the tally's numbers once these are raised, then with U, then with extended U

@@ -9,11 +9,13 @@ use Rattle.std.specs.Prelude.{List, [], ◌∷◌, ◌≡◌, refl, ℕ, zero, s
 use Rattle.std.proofs.Common.{ap, ◌∙◌, arith}
 use Rattle.model.specs.declared.ClassTally.{ClassTally}
 use Rattle.model.specs.declared.Sample.{Sample}
-use Rattle.model.specs.declared.SpeedClass.TheVariants.{Urban, Rural, Motorway}
+use Rattle.model.specs.declared.SpeedClass.{SpeedClass}
+use Rattle.model.specs.PerClass.{per_class}
 use Rattle.model.specs.Numbers.{le_at}
-use Rattle.model.specs.Records.{units}
 use Rattle.model.specs.Tallies.{tally_bytes, tally_from}
 use Rattle.class_tally.specs.Add.{added_class}
+use Rattle.tally_bytes.specs.Bytes as bytes
+use Rattle.tally_bytes.specs.Bytes.{class_place}
 use Rattle.tally.specs.Add.{added}
 use Rattle.tally.specs.Sound.{Sound}
 
@@ -39,17 +41,13 @@ raised xs a (n ∷ ns) = (le_at 4 xs a + n) ∷ raised xs (a + 8) ns
 unfoldable pub low_sum : List ℕ → ℕ → ℕ
 low_sum xs a = le_at 4 xs a + 2 ^ 32 * le_at 2 xs (a + 4)
 
--- the k-th class tally of the tally whose bytes are p, by its low bytes
-abbrev pub low_class : List ℕ → ℕ → ClassTally
-low_class p k = record { samples = le_at 4 p (8 * k); distance = record { 0 = le_at 4 p (distances_place + 8 * k) } }
+-- the tally of a class of the tally whose bytes are p, by its low bytes
+abbrev pub low_class : List ℕ → SpeedClass → ClassTally
+low_class p c = record { samples = le_at 4 p (8 * class_place c); distance = record { 0 = le_at 4 p (distances_place + 8 * class_place c) } }
 
 -- the numbers of the three class tallies with the sample s
 unfoldable pub class_numbers : List ℕ → Sample → List ℕ
-class_numbers p s =
-    let u = added_class Urban (low_class p 0) s in
-    let r = added_class Rural (low_class p 1) s in
-    let m = added_class Motorway (low_class p 2) s in
-    u.samples ∷ r.samples ∷ m.samples ∷ units u.distance ∷ units r.distance ∷ units m.distance ∷ []
+class_numbers p s = bytes.class_numbers (per_class (λ c. added_class c (low_class p c) s))
 
 -- the sample s added to the tally whose bytes are p
 abbrev pub Added : Sample → List ℕ → List ℕ → Type 0

@@ -36,7 +36,8 @@ fn push_hex_digit<const N: usize>(text: &mut ArrayVec<u8, N>, d: u32)
     text.push(char::from_digit(d, 16).unwrap() as u8);
 }
 
-// The k lowest hexadecimal digits of a number, by the two steps of the definition.
+// The k lowest hexadecimal digits of a number, by the two steps of the definition. `hex::encode_to_slice` answers a Result, and bytes that would have to
+// be taken again as text.
 pub fn push_hex<const N: usize>(text: &mut ArrayVec<u8, N>, k: usize, n: u32)
     requires { array_vec_len text.old + k ≤ N }
     ensures { Appended text.old.items k (hexadecimal k n) text.new.items }

@@ -46,7 +46,8 @@ fn finding(broken: u32, exceeded: bool) -> Finding
     Finding::Clean
 }
 
-// The verdict on the samples with this tally, these first n speeds and these altitudes of the first and the last of them.
+// The verdict on the samples with this tally, these first n speeds and these altitudes of the first and the last of them. The area lends its bytes:
+// they and n become a `Speeds` here, at one place; made in the area, it would take the same clause there.
 pub fn verdict(t: SoundTally, speeds: &[u8], n: usize, e: Ends) -> Verdict
     requires { (2 * n ≤ length speeds.now) × (n ≤ max_samples) }
     ensures { (ss : List Sample) → t.tally ≡ tally_of ss → Stored speeds.now n ss → EndsOf ss e → result ≡ verdict_of ss }

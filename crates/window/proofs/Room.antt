@@ -6,6 +6,8 @@ use Prim.Native.Nat.{ℕ, suc, ◌+◌, ◌-◌, ◌≤◌, ◌<◌}
 use native.Mathlib.Decide.{ℕ_discrete}
 use native.Mathlib.Omega.{arith}
 use borrow.Author.Tests.{lt-ltb, le-ltb, eq-eqb, ne_eqb}
+use Rattle.std.specs.Prelude.{Option, None, Some}
+use Rattle.std.specs.Option.{SomeIff, option_eq}
 use lib.Dec.{ltb, eqb}
 use lib.ListN.{length, get_or, length-drop}
 use Rattle.slide.specs.Undisplaced.{aged, aged_goes, aged_stays}
@@ -37,15 +39,13 @@ module _ (w n k : ℕ) (p : List ℕ) where
     no_room : (0 < length (list_of p k) → get_or (list_of p k) 0 0 + w ≡ n → ⊥) → ltb (length left) list_capacity ≡ false
     no_room h = le-ltb (length left) list_capacity (rw (aged_stays w n (list_of p k) h) (omega (arith, number)))
 
-    pub room_young : n < w → false ≡ ltb (length (aged w n (list_of p k))) list_capacity
-    room_young h = sym (no_room (λ z e. omega arith))
-
-    pub room_first : (x : ℕ) → number_of p k ≤ list_capacity → w ≤ n → x ≡ get_or (list_of p k) 0 0
-        → eqb x (n - w) ≡ ltb (length (aged w n (list_of p k))) list_capacity
-    room_first x most h e = by (ℕ_discrete x (n - w))
+    pub room_full : (o : Option ℕ) (x : ℕ) → SomeIff o (w ≤ n) (n - w) → number_of p k ≤ list_capacity → x ≡ get_or (list_of p k) 0 0
+        → option_eq eqb o (Some x) ≡ ltb (length (aged w n (list_of p k))) list_capacity
+    room_full None x young most e = sym (no_room (λ z g. young (omega arith)))
+    room_full (Some y) x leaves most e = by (ℕ_discrete y x)
       where
-        by : Dec (x ≡ n - w) → eqb x (n - w) ≡ ltb (length left) list_capacity
+        by : Dec (y ≡ x) → eqb y x ≡ ltb (length left) list_capacity
         by (yes f) =
             let gone = aged_goes w n (list_of p k) (omega (arith, number)) (omega arith) in
-            eq-eqb x (n - w) f ∙ sym (lt-ltb (length left) list_capacity (rw gone (omega (arith, length-drop 1 (list_of p k), number))))
-        by (no f) = ne_eqb x (n - w) f ∙ sym (no_room (λ z g. f (omega arith)))
+            eq-eqb y x f ∙ sym (lt-ltb (length left) list_capacity (rw gone (omega (arith, length-drop 1 (list_of p k), number))))
+        by (no f) = ne_eqb y x f ∙ sym (no_room (λ z g. f (omega arith)))

@@ -28,16 +28,11 @@ fn qualifying_value(part: &Part, k: Slot, second: u16) -> Option<i64>
 fn read_change(part: &Part, k: Slot, n: u16) -> Change
     ensures { Changes part.now k.number n result }
 {
-    let enters = qualifying_value(part, k, n);
-    let width = slots::width(part, k);
-    if n < width {
-        return Change {
-            leaves: None,
-            enters,
-        };
+    let leaving = n.checked_sub(slots::width(part, k));
+    Change {
+        leaves: leaving.and_then(|second| qualifying_value(part, k, second)),
+        enters: qualifying_value(part, k, n),
     }
-    let leaves = qualifying_value(part, k, n - width);
-    Change { leaves, enters }
 }
 
 // The values in order of slot k, m of them.
@@ -50,17 +45,12 @@ fn keep_values(part: &mut Part, k: Slot, m: usize, c: Change)
 }
 
 // Whether slot k's list has room for second n, once the one that a window of width w leaves behind has gone. `Fit` is a clause, as at lists::append.
+#[tactic(auto, using(crate::proofs::Room::room_below, crate::proofs::Room::room_full))]
 fn has_room(part: &Part, k: Slot, w: u16, n: u16) -> bool
     requires { Fit part.now k.number }
     ensures { result ≡ ltb (length (aged w n (list_of part.now k.number))) list_capacity }
 {
-    if slots::number(part, k) < LIST_CAPACITY {
-        return true;
-    }
-    if n < w {
-        return false;
-    }
-    lists::entry(part, k, 0) == n - w
+    slots::number(part, k) < LIST_CAPACITY || n.checked_sub(w) == Some(lists::entry(part, k, 0))
 }
 
 // The held entries of slot k, whose window is one of smallest or largest.
@@ -75,7 +65,8 @@ fn keep_list(part: &mut Part, k: Slot, n: u16, extreme: Extreme, c: Change)
     list_steps::step_list(part, k, extreme, w, n, c.enters);
 }
 
-// What slot k's function keeps besides count and sum.
+// What slot k's function keeps besides count and sum. A match: the functions are closed, and each keeps something else.
+// `as`: there is no `From` of a u32 for usize.
 fn keep(part: &mut Part, k: Slot, n: u16, m: u32, c: Change)
     requires { (Fit part.old k.number) × (m ≡ count_in (slot_of part.old k.number)) × (Roomy m c) × (Small c) }
     ensures { Kept k.number n c part.old part.new }

@@ -8,6 +8,7 @@ ghost use Rattle.window_record.specs.Read.{window_read};
 use model::{Function, MAX_WIDTH, RECORD_LEN, Refusal};
 
 // A window record keeps the layout, but for the function code. Two comparisons a range: `contains` of a range says no more.
+// Channels are numbers: an enum with `TryFrom` would be seven variants more, for two comparisons here and the one match of record::channel_at.
 #[tactic(auto, using(crate::proofs::Tests::field_tests))]
 fn fields_kept(r: &[u8; RECORD_LEN]) -> bool
     ensures { result ≡ fields_kept r.now }
@@ -24,7 +25,6 @@ fn fields_kept(r: &[u8; RECORD_LEN]) -> bool
 
 // Whether a window record of any length keeps the layout.
 #[tactic(auto, unfolding(model::specs::Records::layout_kept))]
-#[inline(always)]
 pub fn read_window(r: &[u8]) -> Result<(), Refusal>
     ensures { result ≡ window_read r.now }
 {

@@ -6,6 +6,6 @@ use Rattle.calls.proofs.clear.Goals as goal
 
 pub returns : goal.returns
 returns c =
-    step_of c.in-Some.ensures.cases.same
+    step_of (search rules)
     (clear_done (search rules) (search rules) c.clear_windows.ensures c.empty.ensures
     c.write_tally.ensures c.set_number.ensures c.set_number-2.ensures c.set_number-3.ensures c.set_number-4.ensures)

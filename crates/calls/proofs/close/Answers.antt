@@ -9,13 +9,13 @@ use Rattle.calls.proofs.close.Goals as goal
 
 pub returns-in_err-recognise : goal.returns-in_err-recognise
 returns-in_err-recognise c =
-    let p = err_from_is_err_and c.from_residual.result c.from_residual.ensures.1 in
-    rw (p.1, p.2) (step_of c.in-Some.ensures.cases.same (c.in_err-recognise.ensures close close_unlending))
+    let p = err_from_is_err_and c.from_residual-in_err-recognise.result c.from_residual-in_err-recognise.ensures.1 in
+    rw (p.1, p.2) (step_of (search rules) (c.in_err-recognise.ensures close close_unlending))
 
 pub returns-then-is_closed : goal.returns-then-is_closed
 returns-then-is_closed c =
-    step_of c.in-Some.ensures.cases.same (close_closed c.in_ok-recognise.ensures (c.is_closed.ensures.closed c.if-is_closed.true))
+    step_of (search rules) (close_closed c.in_ok-recognise.ensures (c.is_closed.ensures.closed c.if-is_closed.true))
 
 pub returns : goal.returns
 returns c =
-    step_of c.in-Some.ensures.cases.same (close_done (search rules) c.in_ok-recognise.ensures (c.is_closed.ensures.open c.if-is_closed.false) c.set_number.ensures)
+    step_of (search rules) (close_done (search rules) c.in_ok-recognise.ensures (c.is_closed.ensures.open c.if-is_closed.false) c.set_number.ensures)

@@ -1,12 +1,11 @@
-// A value for each class of speed. The three class tallies of a `Tally` stay fields of their own: of the ten functions that go through the
-// three, seven add them up, join tests of them or give each a bit or a place of its own, and would say `t.classes.urban` for `t.urban`.
+// A value for each class of speed.
 #![tactic(auto)]
 
 ghost use Rattle.std.specs.Prelude.{◌≡◌};
 ghost use Rattle.model.specs.declared.SpeedClass.{SpeedClass};
-ghost use Rattle.limits.specs.PerClass.{value_in};
+ghost use Rattle.model.specs.PerClass.{value_in};
 
-use model::SpeedClass;
+use crate::SpeedClass;
 
 #[derive(Clone, Copy)]
 pub struct PerClass<T> {

@@ -14,7 +14,7 @@ static uint8_t area[RDE_AREA_LEN];
 
 /* function, channel, condition channel, 0, width (u16), 0 (u16), low (i32), high (i32) */
 static const uint8_t windows[3][RDE_RECORD_LEN] = {
-    {4, 0, 0, 0, 0x58, 0x02, 0, 0, 0x00, 0, 0, 0, 0xb8, 0x0b, 0, 0}, /* mean speed of ten minutes */
+    {4, 0, 0, 0, 0x58, 0x02, 0, 0, 0x00, 0, 0, 0, 0xb8, 0x0b, 0, 0}, /* mean speed of ten minutes, to the nearest */
     {3, 1, 0, 0, 0x58, 0x02, 0, 0, 0x00, 0, 0, 0, 0xb8, 0x0b, 0, 0}, /* highest altitude of ten minutes */
     {5, 4, 0, 0, 0x3c, 0x00, 0, 0, 0x0a, 0, 0, 0, 0xb8, 0x0b, 0, 0}, /* 95th percentile of NOx in a minute, while moving */
 };

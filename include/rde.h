@@ -50,8 +50,11 @@ extern "C" {
  *        A tally has a fourteenth number, extended U, and RDE_TALLY_LEN is 112: a tally of 104 bytes is refused with RDE_TALLY, its
  *        block is tallied again; an output of 104 bytes is refused with RDE_LENGTH. The area has another format: end and judge a trip
  *        before the change, since its area is refused then. rde_verdict takes 568 bytes of stack, 488 before, rde_join 696, 440
- *        before. RDE_AREA_LEN and records stay. A later library of this version has a faster rde_verdict, which takes 584. */
-#define RDE_VERSION 3
+ *        before. RDE_AREA_LEN and records stay. A later library of this version has a faster rde_verdict, which takes 584.
+ *     4  the average of a window is rounded to the nearest whole unit, an exact half to the even neighbour, and no longer down: a reading
+ *        of function 4 is what it was, or one more. Nothing else changes: no verdict, no refusal, no record, no tally, no byte of the
+ *        area. Areas and tallies are used on, and a trip begun before the change is read with the new rounding from then on. */
+#define RDE_VERSION 4
 
 /* What a call answers: refusal 0 means accepted, with the value; any other refusal has value 0 and has changed no byte. */
 typedef struct {
@@ -127,7 +130,7 @@ enum {
  *
  * A window record:
  *     at  type  what
- *      0  u8    function: 0 count, 1 sum, 2 smallest, 3 largest, 4 average (rounded down: -3 and -4 give -4), 5 percentile
+ *      0  u8    function: 0 count, 1 sum, 2 smallest, 3 largest, 4 average, 5 percentile
  *      1  u8    channel that it reads: 0 speed, 1 altitude, 2 temperature, 3 exhaust flow, 4 NOx, 5 CO2, 6 exhaust flow x NOx
  *      2  u8    condition channel, 0 to 6
  *      3  u8    0
@@ -137,7 +140,9 @@ enum {
  *     12  i32   high, not below low
  * A window looks at the last samples taken, as many as its width, or at all where they are fewer. Those whose condition channel is
  * within low to high, both included, qualify. Low, high and readings but the count are in their channel's unit, channel 6 in
- * 0.1 kg/h x ppm. The percentile is the least qualifying value v such that at least 95 in 100 of the qualifying values are v or less.
+ * 0.1 kg/h x ppm. The average is the sum by the count, rounded to the nearest whole unit, an exact half to the even neighbour: -3 and
+ * -4 give -4, -2 and -3 give -2, 1 and 2 give 2. The percentile is the least qualifying value v such that at least 95 in 100 of the
+ * qualifying values are v or less.
  *
  * A tally. A sample's class goes by its speed: urban up to 60.0 km/h, rural above that and up to 90.0 km/h, motorway above 90.0 km/h.
  *     at  type  what                                             at most, in a well-formed tally

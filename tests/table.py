@@ -1,5 +1,6 @@
-"""Prints the table of document 01's marked cases as crates/model/specs/Cases.antt
-states them; the theorem `marked_cases` there says that the definitions give them.
+"""Prints the table of document 01's marked cases and of R-4's averages as
+crates/model/specs/Cases.antt states them; the theorem `marked_cases` there says
+that the definitions give them.
 
 Run: python3 tests/table.py
 """

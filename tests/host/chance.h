@@ -206,6 +206,8 @@ static inline void window_record(uint8_t *p)
     memset(p, 0, RDE_RECORD_LEN);
     p[0] = (uint8_t)below(6);
     p[1] = (uint8_t)below(7);
+    if (once_in(6)) /* an average of altitudes, the one channel that goes below zero */
+        p[0] = 4, p[1] = 1;
     p[2] = (uint8_t)below(7);
     put_le(p + 4, 2, once_in(4) ? 1 + below(600) : widths[below(8)]);
     random_bounds(p + 8);

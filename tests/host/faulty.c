@@ -35,6 +35,16 @@ enum {
     READ_MORE,             /* a reading is one more */
     READ_NONE_EARLY,       /* a reading of 0 is refused with 10 */
     READ_WINDOW,           /* the window after the one asked for is read */
+    AVERAGE_DOWN,          /* averages are rounded down */
+    AVERAGE_TO_ZERO,       /* they are cut toward zero */
+    AVERAGE_HALF_UP,       /* halves are rounded up */
+    AVERAGE_HALF_DOWN,     /* halves are rounded down */
+    AVERAGE_HALF_AWAY,     /* halves are rounded away from zero */
+    AVERAGE_HALF_TO_ZERO,  /* halves are rounded toward zero */
+    AVERAGE_HALF_ODD,      /* halves are rounded to the odd neighbour */
+    AVERAGE_HALF_ONCE,     /* halves are rounded to the odd neighbour at a count of 596 alone */
+    AVERAGE_HALF_GREAT,    /* they are so where the sum takes more than 32 bits */
+    AVERAGE_MAGNITUDE,     /* beside the floor, the rest of the sum without its sign decides */
     ENDLESS,               /* a reading of a closed trip does not end */
     DAMAGED_LENGTH,        /* a sample to a damaged area is refused with 11 */
     DAMAGED_RECORD,        /* a declare, close or read on a damaged area is refused with 1 */
@@ -172,9 +182,24 @@ static unsigned u16_at(const uint8_t *p)
     return p[0] + 256u * p[1];
 }
 
+static int32_t i32_at(const uint8_t *p)
+{
+    return (int32_t)(u16_at(p) + 65536u * u16_at(p + 2));
+}
+
 static unsigned second_of(const uint8_t *record)
 {
     return u16_at(record);
+}
+
+static int within(int64_t x, int64_t low, int64_t high)
+{
+    return low <= x && x <= high;
+}
+
+static int64_t channel_6(const uint8_t *record)
+{
+    return (int64_t)u16_at(record + 8) * u16_at(record + 10);
 }
 
 static uint64_t samples_of(const uint8_t *tally)
@@ -201,6 +226,89 @@ static rde_answer told(rde_answer a)
         a.refusal = RDE_RECORD_LENGTH;
     if (on(REFUSAL_VALUE) && a.refusal == RDE_NO_WINDOW)
         a.value = 1;
+    return a;
+}
+
+/* --- Averages --- */
+
+#define AVERAGE 4
+
+/* The records of the area cleared last, as the altitudes are. */
+static struct {
+    uint32_t windows;
+    int samples;
+    uint8_t window[RDE_MAX_WINDOWS][RDE_RECORD_LEN], sample[RDE_MAX_SAMPLES][RDE_RECORD_LEN];
+} records;
+
+static void records_window(const uint8_t *record)
+{
+    if (records.windows < RDE_MAX_WINDOWS) /* a damaged area may take more */
+        memcpy(records.window[records.windows++], record, RDE_RECORD_LEN);
+}
+
+static void records_sample(const uint8_t *record)
+{
+    if (records.samples < RDE_MAX_SAMPLES)
+        memcpy(records.sample[records.samples++], record, RDE_RECORD_LEN);
+}
+
+static int64_t channel_value(const uint8_t *record, int channel)
+{
+    if (channel == 1)
+        return (int16_t)u16_at(record + 4);
+    if (channel == 5)
+        return i32_at(record + 12);
+    return channel == 6 ? channel_6(record) : u16_at(record + 2 + 2 * channel);
+}
+
+/* The mean as one of these faults rounds it; without one, to the nearest, and halves to the even neighbour. */
+static int64_t rounded(int64_t sum, int64_t count)
+{
+    int64_t down = sum / count - (sum % count < 0), rest = on(AVERAGE_MAGNITUDE) ? llabs(sum) % count : sum - down * count;
+    int64_t up = down & 1; /* whether a half goes up */
+    if (on(AVERAGE_DOWN))
+        return down;
+    if (on(AVERAGE_TO_ZERO))
+        return sum / count;
+    if (on(AVERAGE_HALF_UP))
+        up = 1;
+    if (on(AVERAGE_HALF_DOWN))
+        up = 0;
+    if (on(AVERAGE_HALF_AWAY))
+        up = sum > 0;
+    if (on(AVERAGE_HALF_TO_ZERO))
+        up = sum < 0;
+    if (on(AVERAGE_HALF_ODD))
+        up = !up;
+    if ((on(AVERAGE_HALF_ONCE) && count == 596) || (on(AVERAGE_HALF_GREAT) && sum > UINT32_MAX))
+        up = !up;
+    return down + (2 * rest + up > count);
+}
+
+/* The reading of an average, worked out from the records. It takes its time, so only for these faults, and for none: with no fault it
+ * must be the library's answer, else the reading is refused. */
+static rde_answer average_told(rde_answer a, uint32_t number)
+{
+    int64_t sum = 0, count = 0;
+    const uint8_t *window;
+    int width, first;
+    if (!on(NONE) && !within(chosen(), AVERAGE_DOWN, AVERAGE_MAGNITUDE))
+        return a;
+    if (a.refusal != 0 || number >= records.windows || records.window[number][0] != AVERAGE)
+        return a;
+    window = records.window[number];
+    width = (int)u16_at(window + 4);
+    first = records.samples > width ? records.samples - width : 0;
+    for (int i = first; i < records.samples; i++) {
+        int counts = within(channel_value(records.sample[i], window[2]), i32_at(window + 8), i32_at(window + 12));
+        count += counts;
+        sum += counts * channel_value(records.sample[i], window[1]);
+    }
+    if (count == 0) /* the area is damaged */
+        return a;
+    if (on(NONE) && a.value != rounded(sum, count))
+        return refused(RDE_DAMAGED);
+    a.value = rounded(sum, count);
     return a;
 }
 
@@ -250,7 +358,7 @@ static int acceleration_at(int i)
 /* The verdict with rules 15 to 20 as one of these faults has them. */
 static rde_verdict_answer walk_told(rde_verdict_answer v)
 {
-    uint32_t accelerating[3] = {0}, within[3] = {0};
+    uint32_t accelerating[3] = {0}, kept[3] = {0};
     int end = on(WALK_REST) && walk.samples > 1 ? 1 + (walk.samples - 2) / 8 * 8 : walk.samples;
     if (v.refusal != 0)
         return v;
@@ -258,11 +366,11 @@ static rde_verdict_answer walk_told(rde_verdict_answer v)
         int a = acceleration_at(i), c = class_of(walk.speeds[i]), p = walk.speeds[i] * a;
         int counts = a >= 8 - on(WALK_SEVEN) + on(WALK_EIGHT);
         accelerating[c] += (uint32_t)counts;
-        within[c] += counts && !beyond_line(c, on(WALK_SHORT) ? p & 0xffff : p);
+        kept[c] += counts && !beyond_line(c, on(WALK_SHORT) ? p & 0xffff : p);
     }
     v.broken &= ~(63u << WALK_RULE);
     for (int c = 0; c < 3; c++)
-        v.broken |= ((uint32_t)(accelerating[c] < 150) | (uint32_t)(100 * within[c] < 95 * accelerating[c]) << 3) << (WALK_RULE + c);
+        v.broken |= ((uint32_t)(accelerating[c] < 150) | (uint32_t)(100 * kept[c] < 95 * accelerating[c]) << 3) << (WALK_RULE + c);
     v.word = v.exceeded ? RDE_EXCEEDED : RDE_CLEAN;
     for (uint32_t k = RDE_RULES; k-- > 0;)
         if (v.broken >> k & 1)
@@ -319,11 +427,6 @@ static rde_verdict_answer heights_told(rde_verdict_answer v)
 
 /* --- The NOx limit --- */
 
-static int within(int x, int low, int high)
-{
-    return low <= x && x <= high;
-}
-
 /* The end of a band, the k-th of six, as its two faults have it. */
 static int band_end(int k)
 {
@@ -346,11 +449,6 @@ static int extended_times(const uint8_t *record)
     if (on(BAND_ONE_ALONE))
         return met == 1;
     return on(BAND_TWICE) ? met : met > 0;
-}
-
-static int64_t channel_6(const uint8_t *record)
-{
-    return (int64_t)u16_at(record + 8) * u16_at(record + 10);
 }
 
 /* The sums as each fault keeps them, of the area cleared last, as the altitudes are. */
@@ -414,6 +512,8 @@ rde_answer __wrap_rde_clear(uint8_t *area, size_t area_len)
         heights_clear();
         sums_clear();
         memset(&walk, 0, sizeof walk);
+        records.windows = 0;
+        records.samples = 0;
     }
     if (on(CLEAR_VALUE) && a.refusal == 0)
         a.value = 1;
@@ -433,6 +533,8 @@ rde_answer __wrap_rde_declare(uint8_t *area, size_t area_len, const uint8_t *rec
         memcpy(area, before, sizeof before);
         return refused(RDE_WINDOWS_FULL);
     }
+    if (a.refusal == 0)
+        records_window(record);
     if (on(DECLARE_NUMBER) && a.refusal == 0)
         a.value++;
     return told(a);
@@ -473,8 +575,10 @@ rde_answer __wrap_rde_sample(uint8_t *area, size_t area_len, const uint8_t *reco
     if (whole) {
         heights_sample(record, a.refusal == 0);
         sums_sample(record, a.refusal == 0);
-        if (a.refusal == 0)
+        if (a.refusal == 0) {
             walk_sample(record);
+            records_sample(record);
+        }
     }
     if (on(REFUSAL_WRITES) && a.refusal == RDE_RANGE)
         area[60]++;
@@ -502,7 +606,7 @@ rde_answer __wrap_rde_read(const uint8_t *area, size_t area_len, uint32_t window
     if (on(ENDLESS) && closed(area, area_len))
         for (volatile int k = 0; k == 0;)
             ;
-    a = __real_rde_read(area, area_len, window + (uint32_t)on(READ_WINDOW));
+    a = average_told(__real_rde_read(area, area_len, window + (uint32_t)on(READ_WINDOW)), window);
     if (on(READ_MORE) && a.refusal == 0)
         a.value++;
     if (on(READ_NONE_EARLY) && a.refusal == 0 && a.value == 0)

@@ -108,7 +108,7 @@ def small_lists(rng, count):
              'order-after-sample', 'order-17', 'read-numbers', 'edges-altitude',
              'edges-temperature', 'window-faults', 'window-edges', 'height-away-and-back',
              'height-after-clear', 'height-far-refused', 'height-near-refused',
-             *generate.extended_lists())
+             *generate.extended_lists(), *generate.average_lists())
     lists = [fixed[name] for name in names][:count]
     while len(lists) < count:
         k = len(lists)

@@ -101,6 +101,8 @@ def random_window(rng, style):
     function, channel = rng.randint(0, 5), rng.randint(0, 6)
     if style == 'altitudes' and rng.random() < 0.7:
         channel = 1
+    if style in ('tiny', 'altitudes') and rng.random() < 0.3:    # means about and below zero
+        function, channel = reference.AVERAGE, 1
     width = rng.choice(SMALL_WIDTHS)
     if rng.random() < 0.1:
         width = rng.choice((1, 2, 599, 600))
@@ -276,6 +278,7 @@ def plain(second, **fields):
 
 
 WHOLE = Window(3, 0, 0, 0, 5, 0, INT_MIN, INT_MAX)   # largest speed, all qualify
+MEAN = WHOLE._replace(function=4, channel=1)         # average altitude, all qualify
 FAR = 5000                                           # m, the highest of its range
 
 
@@ -325,8 +328,7 @@ def marked_case_lists():
     three = [declared(WHOLE._replace(function=5, width=600))]
     for k in range(21):
         three += [plain(k, speed=k + 1), ('read', 0)]
-    nine = [declared(WHOLE._replace(function=4, channel=1)), plain(0, altitude=-3),
-            plain(1, altitude=-4), ('read', 0)]
+    nine = [declared(MEAN), plain(0, altitude=-3), plain(1, altitude=-4), ('read', 0)]
     return {'case-a': one, 'case-b': two, 'case-c': three, 'case-i': nine}
 
 
@@ -395,6 +397,117 @@ def extended_lists():
     }
 
 
+def read_each(calls, windows=1):
+    """The calls, each with a reading of every window after it."""
+    reads = [('read', number) for number in range(windows)]
+    return [c for call in calls for c in [call] + reads]
+
+
+def means_of(width, *altitudes):
+    """The average of so many altitudes, read after each."""
+    return [declared(MEAN._replace(width=width))] + read_each(at_altitudes(*altitudes))
+
+
+# Altitudes whose first three to six have means of 4/3, 9/4, 7/5 and 14/6, just short of a half,
+# and of 8/3, 7/4, 13/5 and 10/6, just past one.
+SHORT_OF_HALVES = (1, 0, 3, 5, -2, 7)
+PAST_HALVES = (2, 1, 5, -1, 6, -3)
+
+
+def average_lists():
+    """R-4, an average read after each sample: its three pairs; halves of both signs beside even
+    and odd numbers; altitudes of -1, 0 and 1; thirds; means of three to six altitudes beside a
+    half; a window whose count is that of its qualifying samples; great values."""
+    some = MEAN._replace(width=3, condition=4, low=1, high=1)    # where NOx is 1
+    few = [(7, 0), (-3, 1), (-4, 1), (9, 0), (-1, 1), (5, 0)]
+    great = [(20000, 5000), (19999, 4999), (20000, 4999), (19999, 4997)]
+    lists = {
+        'average-pairs': means_of(2, -3, -4, -2, -3, 1, 2),
+        'average-halves-below': means_of(2, 0, -1, -2, -3, -4, -5),
+        'average-halves-above': means_of(2, 0, 1, 2, 3, 4, 5),
+        'average-about-zero': means_of(2, -1, 0, 1, 1, 0, -1),
+        'average-thirds': means_of(3, -1, 0, -1, 0, 1, 0, 1),
+        'average-qualifying': [declared(some)] + read_each(
+            [plain(k, altitude=a, nox=nox) for k, (a, nox) in enumerate(few)]),
+        'average-great': [declared(MEAN._replace(channel=6, width=2))] + read_each(
+            [plain(k, flow=flow, nox=nox) for k, (flow, nox) in enumerate(great)]),
+    }
+    for name, altitudes in (('short-of', SHORT_OF_HALVES), ('past', PAST_HALVES)):
+        lists['average-%s-halves' % name] = means_of(6, *altitudes)
+        lists['average-%s-halves-negative' % name] = means_of(6, *(-a for a in altitudes))
+    return lists
+
+
+def near_half(count, halves, side):
+    """A sum of so many values: their mean is this odd number of halves where side is 0 and the
+    count even, otherwise the next below it (-1) or above it."""
+    off = 2 * side if count % 2 == 0 else side or 1
+    return (count * halves + off) // 2
+
+
+def altitudes_near_halves(width, means):
+    """Altitudes by which the mean of the last `width`, or of all where they are fewer, goes
+    through these numbers of halves and sides, as far as an altitude's range lets it."""
+    low, high = reference.RANGES['altitude']
+    altitudes = []
+    for halves, side in means:
+        others = altitudes[max(0, len(altitudes) - width + 1):]
+        wanted = near_half(len(others) + 1, halves, side) - sum(others)
+        altitudes.append(min(high, max(low, wanted)))
+    return altitudes
+
+
+HALVES = (7, 5, 3, 1, -1, -3, -5, -7)
+
+
+def average_slide_list(width):
+    """The average of so many altitudes, as it goes through halves and the means beside them."""
+    return means_of(width, *altitudes_near_halves(
+        width, [(halves, side) for halves in HALVES for side in (-1, 0, 1)]))
+
+
+def average_trip(windows, turn, samples=640):
+    """These averages after every sample of a trip on which the mean of the last 600 altitudes is
+    near a half after nearly every one.  Four turns have, together, a half of both signs at each
+    even count, and at nearly each count a mean just below a half and one just above."""
+    means = [(HALVES[(k // 8 + turn // 2 * 4) % 8], (0, -1, 0, 1)[(k // 2 + turn) % 4])
+             for k in range(samples)]
+    trip = [plain(k, altitude=altitude, flow=20000 - k % 2 * (1 + k // 100 * 2), nox=5000 - k % 2,
+                  co2=k % 3) for k, altitude in enumerate(altitudes_near_halves(600, means))]
+    return [declared(window) for window in windows] + read_each(trip, len(windows))
+
+
+def average_counts_list():
+    """Averages at each count from 1 to 600, in four trips: of altitudes, in the first trip by
+    many widths; there also of each third altitude, and of channel 6 near its greatest value, where
+    a pair's mean is a half."""
+    windows = [MEAN._replace(width=width) for width in (600, 599, 100, 16, 7, 4, 3, 2, 1)]
+    windows += [MEAN._replace(width=width, condition=5, low=0, high=0) for width in (100, 6)]
+    windows += [MEAN._replace(width=width, channel=6) for width in (600, 2)]
+    calls = average_trip(windows, 0)
+    for turn in (1, 2, 3):
+        calls += [('clear',)] + average_trip(windows[:1], turn)
+    return calls, reference.replay(calls)
+
+
+def average_great_list():
+    """The average of channel 6 on a trip whose sum soon takes more than 32 bits. At each fourth
+    sample the mean is, in turn, a half above an even number, one above an odd number, just below
+    a half and just above one."""
+    trip, total = [], 0
+    for k in range(600):
+        flow, nox = 20000, 5000
+        if k % 4 == 3:
+            count, turn = k + 1, k // 4 % 4
+            below = total // count + 1
+            below += (below + turn) % 2
+            flow, nox = near_half(count, 2 * below + 1, (0, 0, -1, 1)[turn]) - total, 1
+        trip.append(plain(k, flow=flow, nox=nox))
+        total += flow * nox
+    calls = [declared(MEAN._replace(channel=6, width=600))] + read_each(trip)
+    return calls, reference.replay(calls)
+
+
 def named_lists():
     """The fixed lists: {name: (calls, answers)}."""
     lists = {}
@@ -402,6 +515,9 @@ def named_lists():
     lists.update(refusal_order_lists())
     lists.update(height_lists())
     lists.update(extended_lists())
+    lists.update(average_lists())
+    for width in (2, 3, 4, 5, 7):
+        lists['average-slides-%d' % width] = average_slide_list(width)
     lists['extended-limits'] = [call for edge in drives.short_weighted_edges()
                                 for drive in (edge.kept, edge.broken)
                                 for call in drives.calls_of(drive) + [('clear',)]]
@@ -608,42 +724,55 @@ def list_text(name, calls, answers):
     return '\n'.join(['list ' + name.replace(' ', '-')] + lines + ['end', ''])
 
 
+def followed(lists):
+    """Each call of the lists, its answer, and the trip's windows and samples before it."""
+    for calls, answers in lists:
+        windows, samples = [], []
+        for call, answer in zip(calls, answers):
+            yield call, answer, windows, samples
+            if answer[0] == 'refused':
+                continue
+            if call[0] == 'clear':
+                windows, samples = [], []
+            if call[0] == 'declare':
+                windows.append(reference.decode_window(call[1]))
+            if call[0] == 'sample':
+                samples.append(reference.decode_sample(call[1]))
+
+
 def coverage(lists):
     """What a set of lists reaches: (call kind, refusal number or 0), and for an
     accepted read also (function, 'negative' or 'positive')."""
     reached = {}
-    for calls, answers in lists:
-        windows = []
-        for call, answer in zip(calls, answers):
-            kind = (call[0], answer[1] if answer[0] == 'refused' else 0)
-            reached[kind] = reached.get(kind, 0) + 1
-            if kind == ('clear', 0):
-                windows = []
-            if kind == ('declare', 0):
-                windows.append(reference.decode_window(call[1]))
-            if kind == ('read', 0):
-                sign = 'negative' if answer[1] < 0 else 'positive'
-                key = (windows[call[1]].function, sign)
-                reached[key] = reached.get(key, 0) + 1
+    for call, answer, windows, _ in followed(lists):
+        kind = (call[0], answer[1] if answer[0] == 'refused' else 0)
+        reached[kind] = reached.get(kind, 0) + 1
+        if kind == ('read', 0):
+            sign = 'negative' if answer[1] < 0 else 'positive'
+            key = (windows[call[1]].function, sign)
+            reached[key] = reached.get(key, 0) + 1
     return reached
 
 
 def judged_trips(lists):
     """Of each verdict on samples: these samples."""
-    trips = []
-    for calls, answers in lists:
-        samples = []
-        for call, answer in zip(calls, answers):
-            if call[0] == 'clear':
-                samples = []
-            if call[0] == 'sample' and answer[0] == 'number':
-                samples.append(reference.decode_sample(call[1]))
-            if call[0] == 'verdict' and samples:
-                trips.append(list(samples))
-    return trips
+    return [list(samples) for call, _, _, samples in followed(lists)
+            if call[0] == 'verdict' and samples]
 
 
-def main():
+def averaged(lists):
+    """Of each average that is read: the sum and the count of the qualifying values."""
+    means = []
+    for call, answer, windows, samples in followed(lists):
+        if call[0] == 'read' and answer[0] == 'number':
+            window = windows[call[1]]
+            if window.function == reference.AVERAGE:
+                values = reference.qualifying_values(window, samples)
+                means.append((sum(values), len(values)))
+    return means
+
+
+def parsed_options():
     parser = argparse.ArgumentParser(description='Write random lists of calls with their answers.')
     parser.add_argument('--lists', type=int, default=100, help='random lists')
     parser.add_argument('--seed', type=int, default=1)
@@ -656,6 +785,8 @@ def main():
                         help='lists that read every window after every sample')
     parser.add_argument('--tallies', type=int, default=0, help='tallies of blocks and joinings')
     parser.add_argument('--named', action='store_true', help='the fixed lists too')
+    parser.add_argument('--averages', action='store_true',
+                        help='every average after every sample too, at counts of 1 to 600')
     parser.add_argument('--trips', action='store_true',
                         help='the clean, the exceeded, the downhill, the summer and the full drive too')
     parser.add_argument('--drives', action='store_true',
@@ -663,12 +794,31 @@ def main():
     parser.add_argument('--steps', action='store_true',
                         help='short drives with one accelerating sample of a class, at each place but the last, '
                              'and the short edge drives of rules 15 to 17')
-    options = parser.parse_args()
+    return parser.parse_args()
+
+
+def fixed_lists(options):
+    """The fixed lists that the options ask for, with their names."""
+    if options.named:
+        yield from named_lists().items()
+    if options.averages:
+        yield 'averages', average_counts_list()
+        yield 'averages-great', average_great_list()
+    if options.trips or options.drives:
+        yield from trip_lists()
+    if options.drives:
+        yield from edge_drive_lists(drives.all_edges())
+    if options.steps:
+        counted = [edge for edge in drives.accelerating_edges() if not edge.whole]
+        yield from edge_drive_lists(drives.step_edges() + counted)
+
+
+def main():
+    options = parsed_options()
     rng = random.Random(options.seed)
     write = sys.stdout.write
-    if options.named:
-        for name, (calls, answers) in named_lists().items():
-            write(list_text(name, calls, answers))
+    for name, (calls, answers) in fixed_lists(options):
+        write(list_text(name, calls, answers))
     for k in range(options.lists):
         write(list_text('random-%d' % k, *random_list(rng, options.max_calls, options.max_samples)))
     for k in range(options.long):
@@ -685,16 +835,6 @@ def main():
             write(line)
     for _ in range(options.tallies):
         write(tally_case(rng))
-    if options.trips or options.drives:
-        for name, (calls, answers) in trip_lists():
-            write(list_text(name, calls, answers))
-    if options.drives:
-        for name, (calls, answers) in edge_drive_lists(drives.all_edges()):
-            write(list_text(name, calls, answers))
-    if options.steps:
-        counted = [edge for edge in drives.accelerating_edges() if not edge.whole]
-        for name, (calls, answers) in edge_drive_lists(drives.step_edges() + counted):
-            write(list_text(name, calls, answers))
 
 
 if __name__ == '__main__':

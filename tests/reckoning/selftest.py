@@ -1,6 +1,6 @@
 """Checks of the reckoning itself: the marked cases (a) to (i) of document 01,
-the reports, rule 21 of document 02's R-1 and the weights of its R-2 by hand, the
-rolling recount, the edge drives, and what the generator reaches.
+the reports, rule 21 of document 02's R-1, the weights of its R-2 and the averages of
+its R-4 by hand, the rolling recount, the edge drives, and what the generator reaches.
 Run: python3 tests/reckoning/selftest.py
 """
 
@@ -350,6 +350,152 @@ def tells_weights(name, lists):
               and not all(map(reference.extended, trip)) for trip in trips), True)
 
 
+# --- Averages to the nearest (R-4) -------------------------------------------
+
+# For each count, sums and their averages.
+AVERAGES = {
+    1: {-500: -500, -7: -7, -2: -2, -1: -1, 0: 0, 1: 1, 2: 2, 7: 7, 5000: 5000},
+    2: {-9: -4, -7: -4, -5: -2, -4: -2, -3: -2, -2: -1, -1: 0,
+        0: 0, 1: 0, 2: 1, 3: 2, 4: 2, 5: 2, 7: 4, 9: 4,
+        -999: -500, -997: -498, 9997: 4998, 9999: 5000},
+    3: {-8: -3, -7: -2, -5: -2, -4: -1, -3: -1, -2: -1, -1: 0,
+        0: 0, 1: 0, 2: 1, 3: 1, 4: 1, 5: 2, 7: 2, 8: 3},
+    4: {-11: -3, -10: -2, -9: -2, -7: -2, -6: -2, -5: -1, -3: -1, -2: 0, -1: 0,
+        1: 0, 2: 0, 3: 1, 5: 1, 6: 2, 7: 2, 9: 2, 10: 2, 11: 3, 13: 3, 14: 4, 15: 4},
+    599: {-899: -2, -898: -1, -599: -1, -300: -1, -299: 0, 299: 0, 300: 1, 599: 1, 898: 1, 899: 2},
+    600: {-1501: -3, -1500: -2, -1499: -2, -901: -2, -900: -2, -899: -1, -301: -1, -300: 0, -299: 0,
+          299: 0, 300: 0, 301: 1, 899: 1, 900: 2, 901: 2, 1499: 2, 1500: 2, 1501: 3,
+          -299700: -500, -299100: -498, 2999100: 4998, 2999700: 5000},
+}
+
+# Readings of the named lists.
+AVERAGE_READINGS = {
+    'case-i': [-4],
+    'average-pairs': [-3, -4, -3, -2, -1, 2],
+    'average-halves-below': [0, 0, -2, -2, -4, -4],
+    'average-halves-above': [0, 0, 2, 2, 4, 4],
+    'average-about-zero': [-1, 0, 0, 1, 0, 0],
+    'average-thirds': [-1, 0, -1, 0, 0, 0, 1],
+    'average-qualifying': [None, -3, -4, -4, -2, -1],
+    'average-great': [100000000, 99987500, 99977500, 99957502],
+    'average-short-of-halves': [1, 0, 1, 2, 1, 2],
+    'average-short-of-halves-negative': [-1, 0, -1, -2, -1, -2],
+    'average-past-halves': [2, 2, 3, 2, 3, 2],
+    'average-past-halves-negative': [-2, -2, -3, -2, -3, -2],
+    'average-slides-2': [3, 4, 4, 2, 2, 3, 1, 2, 2, 0, 0, 1,
+                         -1, 0, 0, -2, -2, -1, -3, -2, -2, -4, -4, -3],
+}
+
+
+def average_cases():
+    """"-3 and -4 give -4, -2 and -3 give -2, 1 and 2 give 2"."""
+    for altitudes, number in (([-3, -4], -4), ([-2, -3], -2), ([1, 2], 2)):
+        trip, _ = make_trip([window(AVERAGE, 1, 2)], [dict(altitude=a) for a in altitudes])
+        check('average of %d and %d' % tuple(altitudes), trip.read(0), ('number', number))
+    for count, averages in AVERAGES.items():
+        for total, number in averages.items():
+            low, more = divmod(total, count)
+            trip, _ = make_trip([window(AVERAGE, 1, 600)], [dict(altitude=low)] * (count - more)
+                                + [dict(altitude=low + 1)] * more)
+            check('average of %d, the sum %d' % (count, total), trip.read(0), ('number', number))
+    named = generate.named_lists()
+    for name, numbers in AVERAGE_READINGS.items():
+        check(name, [answer for call, answer in zip(*named[name]) if call[0] == 'read'],
+              [('refused', 10) if number is None else ('number', number) for number in numbers])
+
+
+def nearest_and_even(number, total, count):
+    """No whole number is nearer to the mean than this one, and where another is as near, this
+    one is even.  Those two or more away are farther than those beside it."""
+    off = abs(count * number - total)
+    beside = min(abs(count * other - total) for other in (number - 1, number + 1))
+    return off < beside or (off == beside and number % 2 == 0)
+
+
+def rounding():
+    """What the request means, at every count; and the magnitude rounded so, with the sign put
+    back, is the same number."""
+    means = [(count * low + more, count) for count in range(1, 601)
+             for low in (-500, -3, -2, -1, 0, 1, 2, 4999, 99999999)
+             for more in {0, 1, count // 2 - 1, count // 2, count // 2 + 1, count - 1}]
+    check('averages are nearest, halves even, at %d means' % len(means),
+          [mean for mean in means if not nearest_and_even(reference.average(*mean), *mean)], [])
+    check('averages below zero are those above it with a minus',
+          [mean for mean in means
+           if reference.average(*mean) != -reference.average(-mean[0], mean[1])], [])
+
+
+def half_up(total, count):
+    return (2 * total + count) // (2 * count)
+
+
+def half_down(total, count):
+    return -half_up(-total, count)
+
+
+def rest_of_magnitude(total, count):
+    """Rounded down, and up where the rest of the sum without its sign says so."""
+    down = total // count
+    return down + (2 * (abs(total) % count) + down % 2 > count)
+
+
+# Ways to round wrongly: {name: the number for a sum and a count}.
+MISROUNDINGS = {
+    'down': lambda total, count: total // count,
+    'up': lambda total, count: -(-total // count),
+    'to zero': lambda total, count: total // count if total > 0 else -(-total // count),
+    'a half up': half_up,
+    'a half down': half_down,
+    'a half from zero': lambda total, count: (half_up if total > 0 else half_down)(total, count),
+    'a half to zero': lambda total, count: (half_down if total > 0 else half_up)(total, count),
+    'a half to the odd': lambda total, count: (
+        half_up(total, count) if half_up(total, count) % 2 else half_down(total, count)),
+    'by the rest of the magnitude': rest_of_magnitude,
+}
+
+
+def tells_rounding(name, means):
+    """Each wrong rounding changes some of these averages, given by sum and count; there are
+    halves of both signs among them, above even and above odd numbers."""
+    check('%s tell each wrong rounding' % name,
+          [wrong for wrong, rounded in MISROUNDINGS.items()
+           if not any(rounded(*mean) != reference.average(*mean) for mean in means)], [])
+    check('%s have halves of both signs, above even and odd numbers' % name,
+          {(total < 0, total // count % 2) for total, count in means
+           if 2 * total % (2 * count) == count}, {(False, 0), (False, 1), (True, 0), (True, 1)})
+
+
+def counts_at(means, *sides):
+    """The counts at which twice a sum is so far from count times an odd number: 0 at a half, -1 or
+    -2 just below one, 1 or 2 just above."""
+    return {count for total, count in means if 2 * total % (2 * count) - count in sides}
+
+
+def average_lists():
+    """What the named lists of averages tell, the widest window of that at every count, and that
+    of great sums."""
+    named = generate.named_lists()
+    tells_rounding('lists of averages',
+                   generate.averaged(named[name] for name in generate.average_lists()))
+    widest = [pair for pair in zip(*generate.average_counts_list())
+              if pair[0][0] != 'read' or pair[0] == ('read', 0)]
+    means = generate.averaged([zip(*widest)])
+    tells_rounding('averages at every count', means)
+    check('averages at every count', {count for _, count in means}, set(range(1, 601)))
+    for name, below_zero in (('from zero on', False), ('below zero', True)):
+        signed = [mean for mean in means if (mean[0] < 0) == below_zero]
+        check('halves at every even count, ' + name, counts_at(signed, 0), set(range(2, 601, 2)))
+    check('means just below a half at nearly every count', len(counts_at(means, -2, -1)) >= 585, True)
+    check('means just above a half at nearly every count', len(counts_at(means, 1, 2)) >= 585, True)
+    great = [mean for mean in generate.averaged([generate.average_great_list()])
+             if mean[0] >= 2 ** 32]
+    for odd, below in ((0, 'an even'), (1, 'an odd')):
+        halves = counts_at([mean for mean in great if mean[0] // mean[1] % 2 == odd], 0)
+        check('great sums at a half above %s number' % below, len(halves) >= 30, True)
+    check('great sums just below a half', len(counts_at(great, -2, -1)) >= 30, True)
+    check('great sums just above a half', len(counts_at(great, 1, 2)) >= 30, True)
+
+
 # --- The examples of the refusal table ---------------------------------------
 
 def refusal_examples():
@@ -599,6 +745,7 @@ def random_lists():
     lists = [generate.random_list(rng) for _ in range(2000)]
     reaches_heights('random lists', lists)
     tells_bands('random lists', lists)
+    tells_rounding('random lists', generate.averaged(lists))
     named = list(generate.named_lists().values())
     lists += named
     reached = generate.coverage(lists)
@@ -612,6 +759,7 @@ def random_lists():
     check('small lists reach every answer', [w for w in wanted if w not in reached], [])
     reaches_sides('small lists', [each for each in small if each not in named])
     tells_bands('small lists', small)
+    tells_rounding('small lists', generate.averaged(small))
     again = [generate.random_list(rng) for rng in [random.Random(1)] for _ in range(50)]
     check('the same seed gives the same lists', again, lists[:50])
     calls, answers = generate.full_trip_list()
@@ -655,6 +803,9 @@ def main():
     height_cases()
     extended_cases()
     extended_tallies()
+    average_cases()
+    rounding()
+    average_lists()
     refusal_examples()
     recount(1, 300)
     definitions(1, 500)

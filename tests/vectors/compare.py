@@ -70,6 +70,8 @@ def lists():
         yield ('random list %d' % k,) + after_clear(*generate.random_list(rng))
     for k in range(4):
         yield ('long list %d' % k,) + after_clear(*generate.long_list(rng, 1500))
+    yield ('averages at every count',) + after_clear(*generate.average_counts_list())
+    yield ('averages of great sums',) + after_clear(*generate.average_great_list())
     for k in range(10):
         yield ('verdicts %d' % k,) + after_clear(*generate.verdict_each_list(rng, 120))
     for name, drive in (('clean', drives.clean_drive()), ('exceeded', drives.exceeded_drive()), ('downhill', drives.downhill_drive()),
@@ -82,8 +84,9 @@ def lists():
 
 def main():
     if sys.argv[1] == '--files':
+        named = generate.named_lists()
         made = [after_clear(*generate.random_list(random.Random(3), 40, 20)),
-                after_clear(*generate.named_lists()['extended-once'])]
+                after_clear(*named['extended-once']), after_clear(*named['average-pairs'])]
         for name, data in (('stdin', b''.join(script_of(calls) for calls, _ in made)),
                            ('stdout', b''.join(answers_of(answers) for _, answers in made))):
             with open(os.path.join(sys.argv[2], name), 'wb') as file:

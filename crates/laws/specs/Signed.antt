@@ -1,10 +1,9 @@
--- Signed numbers: bounds on their size, sums and products that fit a width, and floor division as std makes it.
+-- Signed numbers: bounds on their size, sums and products that fit a width.
 --     small                            a number that is small either way fits a width
 --     abs_mag                          the size of a number is at most one more than its `mag`, which is what `SFits` bounds
 --     abs_add, abs_sub, abs_mul        the size of a sum, a difference and a product
 --     plus, difference, product        what the code's sum, difference and product of small numbers is, and that it fits
 --     less_fits, rolled_fits           a sum from which one value goes and to which one comes
---     floor_euclid                     floor division as std makes it
 --     scaled                           the order is kept by a factor from zero on
 --     cast_fits, cast_is               a number of one width as one of another
 --     widened_fits, widened_is         an i32 as an i64
@@ -15,10 +14,10 @@ use Rattle.std.proofs.lemmas.Bool.{false≢true}
 use Rattle.std.proofs.Common.{ap₂, ◌∙◌, mul-le-mul, mul-le-mul_left, arith, leb-true, le-leb, ltb-true}
 use Rattle.std.proofs.Math.IntN.{sub_ℕ}
 use Rattle.std.specs.Int.Signed.{le_z, mag}
-use Rattle.std.specs.Int.{Width, w32, w64, int_div_euclid}
+use Rattle.std.specs.Int.{Width, w32, w64}
 use mir.Val.{SFits, of_z, to_z, hbits}
 use Rattle.std.proofs.lemmas.Int.{to_z-of_z, to_z_pos}
-use Rattle.model.specs.Numbers.{withinℤ, floor_div}
+use Rattle.model.specs.Numbers.{withinℤ}
 use Rattle.laws.specs.Tests.{both}
 
 -- a number that is small either way fits a width
@@ -114,14 +113,6 @@ module _ (z a : ℤ) {m : ℕ} (hz : nat_abs z ≤ m) (fits : m < 2 ^ 62) (ha : 
 
   pub rolled_fits : (b : ℤ) → nat_abs b < 2 ^ 32 → SFits w64 ((z -ℤ a) +ℤ b)
   rolled_fits b hb = small w64 ((z -ℤ a) +ℤ b) (omega (arith, abs_sub z a, abs_add (z -ℤ a) b))
-
--- Floor division.
-
--- std's quotient whose remainder is not negative, by a count
-pub floor_euclid : (z : ℤ) (n : ℕ) → int_div_euclid z (pos n) ≡ floor_div z n
-unfolding floor_div
-floor_euclid (pos a) n = refl
-floor_euclid (negsuc a) n = refl
 
 -- The order is kept by a factor from zero on.
 

@@ -1,4 +1,4 @@
--- The marked cases of document 01 ("Contracts and proved cases", (a) to (i)): what the definitions give, what document 01 states, and one theorem.
+-- The marked cases of document 01 ("Contracts and proved cases", (a) to (i)) and averages by R-4: what the definitions give, what the documents state, and one theorem.
 use Rattle.std.specs.Prelude.{Bool, true, false, List, [], ◌∷◌, ◌++◌, map, ◌≡◌, refl, ℕ, ◌-◌, ℤ, pos, replicate}
 use Rattle.std.specs.Prelude.{Option, Some}
 use Rattle.model.specs.declared.Sample.{Sample}
@@ -59,6 +59,8 @@ pub record Table : Type 0 where
   pub h : List Bool
   -- the average of −3 and −4
   pub i : List Answer
+  -- R-4: the averages of −3 and −4, of −2 and −3, and of 1 and 2; and one beside a half, by "nearest", of −3, −3 and −4
+  pub j : List (Option ℤ)
 
 -- what the definitions give
 unfoldable pub computed : Table
@@ -72,12 +74,13 @@ computed = record {
   g = beyond_limit 100 30000 (pos 48003) ∷ beyond_limit 100 30000 (pos 48004) ∷ [];
   h = accelerating (drive (100 ∷ 100 ∷ 107 ∷ [])) 1 ∷ accelerating (drive (100 ∷ 100 ∷ 108 ∷ [])) 1 ∷ [];
   i = answers empty (window 4 1 2 ∷ at 0 0 (below 3) ∷ at 1 0 (below 4) ∷ read 0 ∷ []);
+  j = map average ((minus 3 ∷ minus 4 ∷ []) ∷ (minus 2 ∷ minus 3 ∷ []) ∷ (pos 1 ∷ pos 2 ∷ []) ∷ (minus 3 ∷ minus 3 ∷ minus 4 ∷ []) ∷ []);
 }
 
 abbrev numbers : List ℕ → List Answer
 numbers ns = map (λ n. number (pos n)) ns
 
--- what document 01 states; in a, b and i the answers of the other calls stand between: the window's number and the moves
+-- what the documents state, and for the last of j what "nearest" says; in a, b and i the answers of the other calls stand between: the window's number and the moves
 unfoldable pub stated : Table
 stated = record {
   a = numbers (0 ∷ 0 ∷ 4 ∷ 0 ∷ 4 ∷ 0 ∷ 7 ∷ 0 ∷ 3 ∷ []);
@@ -89,11 +92,12 @@ stated = record {
   g = false ∷ true ∷ [];
   h = false ∷ true ∷ [];
   i = numbers (0 ∷ 0 ∷ 0 ∷ []) ++ (number (minus 4) ∷ []);
+  j = Some (minus 4) ∷ Some (minus 2) ∷ Some (pos 2) ∷ Some (minus 3) ∷ [];
 }
 
 pub marked_cases : computed ≡ stated
 unfolding
-    le_val le_at le_bytes signed within withinℤ outside floor_div all range sumℤ filter count any total
+    le_val le_at le_bytes signed within withinℤ outside floor_div floor_mod even round_half_even all range sumℤ filter count any total
     sample_of in_range channels channel window_of fields_kept layout_kept
     sample_at looked_at qualifies qualifying value_at values fold smallest largest average enough percentile figure reading
     keeps_entries entries displaces undisplaced held moves
@@ -106,11 +110,3 @@ unfolding
     record_at ascii digits decimal hex_digit hexadecimal finding_text accepted_text refused_text pieces on_outcome report_from report
     computed stated
 marked_cases = refl
-
--- Rounding to the nearest, halves to even, of the sums of −3 and −4, of −2 and −3, of 1 and 2, and beside a half, of −3, −3 and −4.
-pub rounded : List ℤ
-rounded = round_half_even (minus 7) 2 ∷ round_half_even (minus 5) 2 ∷ round_half_even (pos 3) 2 ∷ round_half_even (minus 10) 3 ∷ []
-
-pub rounded_cases : rounded ≡ minus 4 ∷ minus 2 ∷ pos 2 ∷ minus 3 ∷ []
-unfolding rounded floor_div floor_mod even round_half_even
-rounded_cases = refl

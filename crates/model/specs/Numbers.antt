@@ -44,15 +44,15 @@ unfoldable pub floor_div : ℤ → ℕ → ℤ
 floor_div (pos a) n = pos (a / n)
 floor_div (negsuc a) n = negsuc (a / n)
 
--- what rounding down leaves: from 0 up to below n, where n is above 0
+-- what rounding down leaves, for R-4: from 0 up to below n, where n is above 0
 unfoldable pub floor_mod : ℤ → ℕ → ℤ
 floor_mod z n = z -ℤ pos n *ℤ floor_div z n
 
--- the "even neighbour"
+-- R-4: the "even neighbour"
 unfoldable pub even : ℤ → Bool
 even z = eqb (nat_abs z % 2) 0
 
--- "to the nearest whole unit and an exact half to the even neighbour"; `rounds` (crates/rounding) says it of distances
+-- R-4: "to the nearest whole unit and an exact half to the even neighbour"; `rounds` and `only` (crates/rounding) say it of distances
 unfoldable pub round_half_even : ℤ → ℕ → ℤ
 round_half_even z n =
     let floor : ℤ = floor_div z n in

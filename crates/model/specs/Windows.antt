@@ -5,7 +5,7 @@ use Rattle.std.specs.Int.Signed.{le_z}
 use Rattle.model.specs.declared.Sample.{Sample}
 use Rattle.model.specs.declared.Function.{Function}
 use Rattle.model.specs.declared.Function.TheVariants.{Count, Sum, Smallest, Largest, Average, Percentile}
-use Rattle.model.specs.Numbers.{withinℤ, floor_div, range, sumℤ, filter, count, any, total}
+use Rattle.model.specs.Numbers.{withinℤ, round_half_even, range, sumℤ, filter, count, any, total}
 use Rattle.model.specs.Records.{channel, sample_of, Window}
 
 -- the sample of second i; every use below has i among the samples
@@ -51,10 +51,10 @@ unfoldable pub largest : List ℤ → Option ℤ
 largest [] = None
 largest (z ∷ zs) = Some (fold larger z zs)
 
--- "The average is sum by count, rounded down"
+-- "The average is sum by count"; R-4: "to the nearest whole unit and an exact half to the even neighbour"
 unfoldable pub average : List ℤ → Option ℤ
 average [] = None
-average (z ∷ zs) = Some (floor_div (sumℤ (z ∷ zs)) (length (z ∷ zs)))
+average (z ∷ zs) = Some (round_half_even (sumℤ (z ∷ zs)) (length (z ∷ zs)))
 
 -- "100 × (qualifying values ≤ v) is at least 95 × (qualifying values)"
 unfoldable pub enough : List ℤ → ℤ → Bool

@@ -2,7 +2,7 @@
 --     Reads                       what a reading ensures
 --     reads_count .. reads_percentile, reads_unfit, reads_none, reads_other     one law for each return
 -- Assumes nothing.
-use Rattle.std.specs.Prelude.{Bool, true, false, ◌≡◌, ℕ, zero, suc, ◌^◌, ◌≤◌, ◌<◌, ℤ, pos, FitsSigned}
+use Rattle.std.specs.Prelude.{Bool, true, false, ◌≡◌, ℕ, zero, suc, ◌^◌, ◌≤◌, ◌<◌, ℤ, pos}
 use Rattle.std.proofs.lemmas.Bool.{false≢true}
 use mathlib.Core.List.{List}
 use Rattle.std.specs.Prelude.{Option, None, Some}
@@ -11,16 +11,11 @@ use Rattle.std.proofs.Common.{◌∙◌, mul-le-mul, arith}
 use borrow.Author.Tests.{leb-true}
 use Rattle.std.proofs.Math.ListN.{length, get_or}
 use Rattle.field.specs.Le.{le_part}
-use Rattle.model.specs.Numbers.{le_at, floor_div}
+use Rattle.model.specs.Numbers.{le_at, round_half_even}
 use Rattle.model.specs.Records.{record_length, max_windows, max_width, functions, layout_kept, Window}
 use Rattle.model.specs.Windows.{value_at, held, keeps_entries, reading}
 use Rattle.model.specs.declared.Function.TheVariants.{Count}
 use Rattle.model.specs.declared.Sample.{Sample}
-use mir.Syntax.{w64}
-use Rattle.std.specs.Int.{CanDivide, int_div_euclid}
-use Rattle.std.specs.Option.{SomeIff}
-use Rattle.std.proofs.lemmas.Int.{ints, quot_fits}
-use Rattle.laws.specs.Signed.{floor_euclid}
 use Rattle.cells.specs.Store.{values_of}
 use Rattle.laws.specs.Tests.{both}
 use Rattle.slide.specs.Held.{held_within, reading_first, reading_unheld}
@@ -64,22 +59,20 @@ module _ (k : ℕ) (p : List ℕ) where
   pub reads_sum : code_in (slot_of p k) ≡ 1 → Reads k p (Some (sum_in (slot_of p k)))
   reads_sum e = reads k p _ (λ w ss s. ap Some s.sum ∙ sym (reading_sum w ss (stands_function w ss _ s _ e)))
 
-  module _ (m : ℕ) (count : m ≡ count_in (slot_of p k)) (some-value : 0 < m) (r : ℤ) where
-    pub reads_average : code_in (slot_of p k) ≡ 4 → (z : ℤ) → z ≡ sum_in (slot_of p k) → r ≡ floor_div z m → Reads k p (Some r)
-    reads_average e z f g =
-        reads k p _
-        (λ w ss s.
-        ap Some (g ∙ ap₂ floor_div (f ∙ s.sum) (count ∙ s.count))
-        ∙ sym (reading_average w ss (stands_function w ss _ s _ e) (omega (arith, s.count))))
+  pub reads_average : code_in (slot_of p k) ≡ 4 → 0 < count_in (slot_of p k) → Reads k p (Some (round_half_even (sum_in (slot_of p k)) (count_in (slot_of p k))))
+  reads_average e h =
+      reads k p _
+      (λ w ss s.
+      ap Some (ap₂ round_half_even s.sum s.count) ∙ sym (reading_average w ss (stands_function w ss _ s _ e) (omega (arith, s.count))))
 
-    pub reads_percentile : code_in (slot_of p k) ≡ 5 → (store : List ℕ) → store ≡ store_in (slot_of p k) → r ≡ get_or (values_of store m) (rank m) (pos 0)
-        → Reads k p (Some r)
-    reads_percentile e store f g =
-        reads k p _
-        (λ w ss s.
-        let h = stands_function w ss _ s _ e in
-        ap Some (g ∙ ap₂ (λ (l : List ℤ) (n : ℕ). get_or l (rank n) (pos 0)) (ap₂ values_of f count ∙ s.store h) (count ∙ s.count))
-        ∙ sym (reading_percentile w ss (pos 0) h (omega (arith, s.count))))
+  pub reads_percentile : (m : ℕ) → m ≡ count_in (slot_of p k) → 0 < m → (r : ℤ) → code_in (slot_of p k) ≡ 5
+      → (store : List ℕ) → store ≡ store_in (slot_of p k) → r ≡ get_or (values_of store m) (rank m) (pos 0) → Reads k p (Some r)
+  reads_percentile m count some-value r e store f g =
+      reads k p _
+      (λ w ss s.
+      let h = stands_function w ss _ s _ e in
+      ap Some (g ∙ ap₂ (λ (l : List ℤ) (n : ℕ). get_or l (rank n) (pos 0)) (ap₂ values_of f count ∙ s.store h) (count ∙ s.count))
+      ∙ sym (reading_percentile w ss (pos 0) h (omega (arith, s.count))))
 
   -- with no value, codes 4 and 5
   pub reads_none : 2 ≤ code_in (slot_of p k) → code_in (slot_of p k) ≤ 5 → count_in (slot_of p k) ≡ 0 → Reads k p None
@@ -94,13 +87,6 @@ module _ (k : ℕ) (p : List ℕ) where
       needed (suc (suc (suc (suc zero)))) h l = unfold needs_values in refl
       needed (suc (suc (suc (suc (suc zero))))) h l = unfold needs_values in refl
       needed (suc (suc (suc (suc (suc (suc m)))))) h l = absurd (omega arith)
-
-  -- the library's quotient, which is none exactly where the count is 0
-  pub reads_quotient : (r : Option ℤ) → code_in (slot_of p k) ≡ 4 → (z : ℤ) (m : ℕ) → z ≡ sum_in (slot_of p k) → m ≡ count_in (slot_of p k) → FitsSigned w64 z
-      → SomeIff r (CanDivide w64 z (pos m)) (int_div_euclid z (pos m)) → Reads k p r
-  reads_quotient (Some r) e z m f count fits h = reads_average m count (omega (arith, h.0.0)) r e z f (h.1 ∙ floor_euclid z m)
-  reads_quotient None e z zero f count fits h = reads_none (omega arith) (omega arith) (sym count)
-  reads_quotient None e z (suc m) f count fits h = absurd (h (omega arith, quot_fits w64 z (pos (suc m)) fits (omega (arith, ints))))
 
   -- no more than max_width values are in view
   pub reads_beyond : (r : Option ℤ) → max_width < count_in (slot_of p k) → Reads k p r

@@ -26,12 +26,17 @@ fn first_value(part: &Part, k: Slot, extreme: Extreme) -> Option<i64>
     Some(slots::value(part, k, second))
 }
 
-// The sum by the count, rounded down; none where the count is 0.
+// The sum by the count, rounded to the nearest, an exact half to even; none for a count of 0.
+#[tactic(auto, using(crate::specs::Read::reads_none))]
 fn average(part: &Part, k: Slot) -> Option<i64>
     requires { code_in (slot_of part.now k.number) ≡ 4 }
     ensures { Reads k.number part.now result }
 {
-    slots::sum(part, k).checked_div_euclid(i64::from(slots::count(part, k)))
+    let count = slots::count(part, k);
+    if count == 0 {
+        return None;
+    }
+    Some(rounding::round_half_even(slots::sum(part, k), count))
 }
 
 // The percentile; none for a count of 0, or of more than a window holds. `as`: there is no `From` of a u32 for usize.

@@ -1,4 +1,5 @@
 -- What floor division leaves, and rounding to the nearest, as code makes them.
+--     floor_euclid                            the floor as std makes it
 --     rest, rest_euclid                       what the floor leaves, also as std makes it
 --     rest_is, rest_less                      it is the model's `floor_mod`, and below the count
 --     half_fits, even_is                      the test for an odd number
@@ -14,11 +15,17 @@ use Rattle.std.proofs.Math.Nat.{mod-lt, div-add-mod, mul-suc}
 use borrow.Author.Tests.{ltb-true, ltb-false, le-ltb, lt-ltb}
 use Rattle.std.proofs.Math.Dec.{ltb}
 use Rattle.std.proofs.Math.IntN.{pos, neg_ℤ-neg_ℤ, sub_ℕ}
-use Rattle.std.specs.Int.{int_rem_euclid}
+use Rattle.std.specs.Int.{int_div_euclid, int_rem_euclid}
 use Rattle.std.specs.Int.Signed.{quot_z, rem_z}
 use mir.Syntax.{w64}
 use Rattle.model.specs.Numbers.{bit, floor_div, floor_mod, even, round_half_even}
 use Rattle.laws.specs.Signed.{small, abs_mag, abs_add}
+
+-- std's quotient whose remainder is not negative, by a count
+pub floor_euclid : (z : ℤ) (n : ℕ) → int_div_euclid z (pos n) ≡ floor_div z n
+unfolding floor_div
+floor_euclid (pos a) n = refl
+floor_euclid (negsuc a) n = refl
 
 -- what the floor leaves, as a number; std makes the same
 abbrev pub rest : ℤ → ℕ → ℕ

@@ -1,3 +1,2 @@
 pub mod Floor
 pub mod Nearest
-pub mod Arms

@@ -3,15 +3,21 @@
 --     Nearest       m is the whole number nearest to z / n; of two as near, the even one
 --     rounds        what the average is rounded to is that
 --     only          and nothing else is
+--     mean          so that is what a window of function 4 reads
 --     opposite      and the rounded number of −z is that of z with the other sign
 -- Assumes nothing.
-use Rattle.std.specs.Prelude.{Bool, true, false, cond, not, ◌≡◌, refl, ℕ, zero, suc, ◌+◌, ◌-◌, ◌*◌, ◌%◌, ◌≤◌, ◌<◌, ltb, eqb, ℤ, negsuc, neg_ℤ, nat_abs, ◌+ℤ◌, ◌-ℤ◌, ◌*ℤ◌}
+use Rattle.std.specs.Prelude.{Bool, true, false, cond, not, List, [], ◌∷◌, length, Some, ◌≡◌, refl, ℕ, zero, suc, ◌+◌, ◌-◌, ◌*◌, ◌%◌, ◌≤◌, ◌<◌, ltb, eqb, ℤ, negsuc, neg_ℤ, nat_abs, ◌+ℤ◌, ◌-ℤ◌, ◌*ℤ◌}
 use Rattle.std.proofs.lemmas.Bool.{false≢true}
-use Rattle.std.proofs.Math.Path.{sym, ap}
+use Rattle.std.proofs.lemmas.Option.{none-some, same_Some}
+use Rattle.std.proofs.Math.Path.{sym, ap, subst}
 use Rattle.std.proofs.Common.{◌∙◌, mod-lt, mul-suc, mul-one, mul-zero, zero-mul, arith, ltb-true, ltb-false, lt-ltb}
 use Rattle.std.proofs.Math.Nat.{suc-mod}
 use Rattle.std.proofs.Math.IntN.{pos, suc_ℤ, pred_ℤ, neg_ℤ-neg_ℤ, suc_ℤ-+ℤ, pred_ℤ-+ℤ, +ℤ_idl, +ℤ_idr, +ℤ_assoc, +ℤ_comm, +ℤ_invr, +ℤ_one, neg_ℤ-+ℤ, zero-*ℤ, suc_ℤ-*ℤ, pred_ℤ-*ℤ, *ℤ_comm, -ℤ-+ℤ_cancel, ℤ_discrete}
-use Rattle.model.specs.Numbers.{bit, floor_div, floor_mod, even, round_half_even}
+use Rattle.model.specs.declared.Sample.{Sample}
+use Rattle.model.specs.declared.Function.TheVariants.{Average}
+use Rattle.model.specs.Numbers.{bit, floor_div, floor_mod, even, round_half_even, sumℤ}
+use Rattle.model.specs.Records.{Window}
+use Rattle.model.specs.Windows.{values, average, figure, reading}
 use Rattle.laws.specs.Signed.{abs_neg}
 use Rattle.laws.specs.Tests.{not_not}
 use Rattle.rounding.specs.Floor.{rest, rest_less, rest_is, doubled, round_is}
@@ -195,6 +201,19 @@ module _ (z : ℤ) (n : ℕ) (counted : 0 < n) where
       by : Dec (m ≡ round_half_even z n) → m ≡ round_half_even z n
       by (yes e) = e
       by (no ne) = absurd (false≢true (sym (differs m ne same).1 ∙ h.even_of_two (round_half_even z n) (λ e. ne (sym e)) (sym same)))
+
+-- Averages.
+
+average_nearest : (zs : List ℤ) (m : ℤ) → average zs ≡ Some m → Nearest (sumℤ zs) (length zs) m
+unfolding average
+average_nearest [] m e = absurd (none-some m e)
+average_nearest (z ∷ zs) m e =
+    subst (Nearest (sumℤ (z ∷ zs)) (length (z ∷ zs))) (same_Some _ m e) (rounds (sumℤ (z ∷ zs)) (length (z ∷ zs)) (omega arith))
+
+-- what a window of function 4 reads
+pub mean : (w : Window) (ss : List Sample) (m : ℤ) → w.function ≡ Average → reading w ss ≡ Some m → Nearest (sumℤ (values w ss)) (length (values w ss)) m
+unfolding reading figure
+mean w ss m f e = average_nearest (values w ss) m (ap (λ g. figure g (values w ss)) (sym f) ∙ e)
 
 -- The other sign.
 

@@ -1,4 +1,4 @@
-// A sum by a count: rounded down, what that leaves, and rounded to the nearest. Nothing wraps, whatever the sum.
+// An average: a sum by a count, rounded to the nearest, of two as near the even one. Nothing wraps, whatever the sum.
 #![tactic(auto)]
 
 ghost use Rattle.std.specs.Prelude.{not, ◌≡◌, ◌<◌, pos};
@@ -22,16 +22,17 @@ fn is_odd(z: i64) -> bool
 
 // The whole number nearest to sum by count, of two as near the even one: one above the floor where twice what it leaves is more than
 // count, or is count and the floor is odd.
-#[tactic(auto, using(std::proofs::lemmas::Bool::Decides::nat_tests, laws::specs::Signed::floor_euclid, crate::specs::Floor::rest_is, crate::specs::Floor::round_is, crate::specs::Floor::next_fits))]
+#[tactic(auto, using(std::proofs::lemmas::Bool::Decides::nat_tests, crate::specs::Floor::floor_euclid, crate::specs::Floor::rest_is, crate::specs::Floor::round_is, crate::specs::Floor::next_fits))]
 pub fn round_half_even(sum: i64, count: u32) -> i64
     requires { 0 < count }
     ensures { result ≡ round_half_even sum count }
 {
     let floor = sum.div_euclid(i64::from(count));
-    let odd = u64::from(is_odd(floor));
-    if u64::from(count) < 2 * floor_mod(sum, count) + odd {
-        floor + 1
+    let twice = 2 * floor_mod(sum, count);
+    let up = if twice == u64::from(count) {
+        is_odd(floor)
     } else {
-        floor
-    }
+        u64::from(count) < twice
+    };
+    if up { floor + 1 } else { floor }
 }

@@ -11,13 +11,13 @@ use Rattle.model.specs.Records.{Window}
 use Rattle.model.specs.declared.Sample.{Sample}
 use Rattle.model.specs.declared.Function.{Function}
 use Rattle.model.specs.declared.Function.TheVariants.{Count, Sum, Smallest, Largest, Average, Percentile}
-use Rattle.model.specs.Numbers.{sumℤ, floor_div}
+use Rattle.model.specs.Numbers.{sumℤ, round_half_even}
 use Rattle.model.specs.Windows.{values, smallest, largest, average, figure, reading}
 use Rattle.laws.specs.Lists.{length_zero}
 use Rattle.slide.specs.Percentile.{percentile_empty}
 
 -- the average by the count and the sum
-average_is : (zs : List ℤ) → 0 < length zs → average zs ≡ Some (floor_div (sumℤ zs) (length zs))
+average_is : (zs : List ℤ) → 0 < length zs → average zs ≡ Some (round_half_even (sumℤ zs) (length zs))
 unfolding average
 average_is [] h = absurd (omega arith)
 average_is (z ∷ zs) h = refl
@@ -53,7 +53,7 @@ module _ (w : Window) (ss : List Sample) where
   unfolding figure
   reading_sum e = by_function Sum e
 
-  pub reading_average : w.function ≡ Average → 0 < length (values w ss) → reading w ss ≡ Some (floor_div (sumℤ (values w ss)) (length (values w ss)))
+  pub reading_average : w.function ≡ Average → 0 < length (values w ss) → reading w ss ≡ Some (round_half_even (sumℤ (values w ss)) (length (values w ss)))
   unfolding figure
   reading_average e h = by_function Average e ∙ average_is (values w ss) h
 

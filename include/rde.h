@@ -1,4 +1,5 @@
-/* The judging core of the emissions handset: the six calls on a lent state area, and tallies of blocks of samples.
+/* The judging core of the emissions handset: the six calls on a lent state area, tallies of blocks of samples, and the check of a block's
+ * CO2 windows.
  *
  * All numbers in records and tallies are little-endian, signed ones in two's complement. No function keeps a pointer, allocates, or
  * reads or writes outside the lengths it is given; each ends for any bytes. No pointer may be null, also with length 0; none needs an
@@ -27,8 +28,9 @@
  *     rde_close     8
  *     rde_read      8
  *     rde_verdict   392
- *     rde_tally     120
+ *     rde_tally     113
  *     rde_join      584
+ *     rde_co2       120
  */
 #ifndef RDE_H
 #define RDE_H
@@ -53,8 +55,10 @@ extern "C" {
  *        before. RDE_AREA_LEN and records stay. A later library of this version has a faster rde_verdict, which takes 584.
  *     4  the average of a window is rounded to the nearest whole unit, an exact half to the even neighbour, and no longer down: a reading
  *        of function 4 is what it was, or one more. Nothing else changes: no verdict, no refusal, no record, no tally, no byte of the
- *        area. Areas and tallies are used on, and a trip begun before the change is read with the new rounding from then on. */
-#define RDE_VERSION 4
+ *        area. Areas and tallies are used on, and a trip begun before the change is read with the new rounding from then on.
+ *     5  rde_co2 and its refusal RDE_REFERENCE are new. Nothing else changes: areas, records and tallies are used on. rde_tally takes 113
+ *        bytes of stack, 120 before. */
+#define RDE_VERSION 5
 
 /* What a call answers: refusal 0 means accepted, with the value; any other refusal has value 0 and has changed no byte. */
 typedef struct {
@@ -69,6 +73,14 @@ typedef struct {
     uint32_t exceeded; /* 1: the NOx limit is exceeded; 0: it is not */
     uint32_t word;     /* the finding: the lowest broken rule; else RDE_EXCEEDED; else RDE_CLEAN */
 } rde_verdict_answer;
+
+/* What rde_co2 answers; at a refusal the other three are 0. */
+typedef struct {
+    uint32_t refusal;
+    uint32_t complete; /* the complete windows */
+    uint32_t normal;   /* those of them that are normal */
+    uint32_t pass;     /* 1: some are complete, and at least half of these are normal; 0: else */
+} rde_co2_answer;
 
 /* Refusal numbers. */
 enum {
@@ -86,6 +98,7 @@ enum {
     RDE_LENGTH = 11,        /* area or output of the wrong length */
     RDE_TALLY = 12,         /* an ill-formed tally */
     RDE_JOINED = 13,        /* joined tallies over 7201 samples */
+    RDE_REFERENCE = 14,     /* reference record not 16 bytes, a value of it outside its range, or a byte that is not 0 as it must be */
     RDE_DAMAGED = 255       /* the area was never cleared, was saved by a version with another format, or holds what no list of calls
                              * leaves; only rde_clear helps */
 };
@@ -95,7 +108,8 @@ enum {
  *     RDE_CLOSED          the trip has ended: read it, judge it, or rde_clear for the next
  *     RDE_SECOND          a sample was lost or given twice: give the one due, of the second that is the number of samples taken
  *     RDE_RANGE           a sensor is out of its range: give a record with a value that stands for it, or give the trip or block up
- *     RDE_FULL            the trip is as long as it can be, and rule 1 is broken: rde_close; a block: keep it in parts
+ *     RDE_FULL            the trip is as long as it can be, and rule 1 is broken: rde_close; a block: keep it in parts, but for rde_co2,
+ *                         whose windows would end at each part: it has no answer for a drive of more than 7201 samples
  *     RDE_WINDOW          a fault of the calling program: mend the window record
  *     RDE_STARTED         declare windows before the first sample; for this trip it is too late
  *     RDE_WINDOWS_FULL    do without the window, or rde_clear and declare others
@@ -104,6 +118,7 @@ enum {
  *     RDE_LENGTH          a fault of the calling program: lend an area of RDE_AREA_LEN bytes, an output of RDE_TALLY_LEN
  *     RDE_TALLY           a tally that has not RDE_TALLY_LEN bytes, or was damaged: tally its block again
  *     RDE_JOINED          the two are more than a trip: keep them apart
+ *     RDE_REFERENCE       a fault of the calling program or of the car's data: mend the reference record
  *     RDE_DAMAGED         rde_clear; a trip that the area held is lost. If this version cleared the area before, look for what wrote to it */
 
 /* The findings of a verdict beside the rules' numbers. */
@@ -113,7 +128,7 @@ enum {
 };
 
 #define RDE_AREA_LEN 63532  /* bytes of the state area; rde_area_len() gives the same */
-#define RDE_RECORD_LEN 16   /* bytes of a sample record and of a window record */
+#define RDE_RECORD_LEN 16   /* bytes of a sample record, of a window record and of a reference record */
 #define RDE_TALLY_LEN 112   /* bytes of a tally: fourteen u64 */
 #define RDE_MAX_SAMPLES 7201
 #define RDE_MAX_WINDOWS 16
@@ -163,7 +178,25 @@ enum {
  * A sample is extended, taken in what the regulation calls extended conditions, at 266.0 to 272.9 K, at 303.1 to 308.0 K, ends
  * included, or above 700 m and up to 1300 m: 700 m is not extended, 1300 m is. One condition is enough, whatever the other value is; a
  * sample that meets two counts once. U holds every sample, the extended ones too; other U, that of the samples which are not extended,
- * is U less extended U. */
+ * is U less extended U.
+ *
+ * A reference record, which is of the car and not of a drive:
+ *     at  type  what                                       unit  range
+ *      0  u32   M, the CO2 at which a window is complete   mg    1 or more
+ *      4  u16   c1, the curve at 19.0 km/h                 g/km  1 to 1000
+ *      6  u16   c2, the curve at 56.6 km/h                 g/km  1 to 1000
+ *      8  u16   c3, the curve at 92.3 km/h                 g/km  1 to 1000
+ *     10  6 x u8                                                 0 */
+
+/* The CO2 windows of a drive, which say whether it is plausible: moving averaging windows and the CO2 characteristic curve of the
+ * regulation. From each sample a window opens. It is complete at the first sample where its CO2 reaches M, and is the samples up to that
+ * one, this one included; its CO2 is the sum of the CO2 fields, since a sample stands for one second, from the sample that opens it on.
+ * A window that does not reach M before the drive ends does not count. Of a complete window: n its samples, D its distance in 1/36000 km,
+ * which is the sum of their speeds, m its CO2 in mg. Its mean speed is D / n, in 0.1 km/h, standing samples counted; its g/km are
+ * 36 x m / D. The curve at that mean speed is the line through (19.0 km/h, c1) and (56.6 km/h, c2) up to 56.6 km/h, and the line through
+ * (56.6 km/h, c2) and (92.3 km/h, c3) above it; each goes on as the same line below 19.0 km/h and above 92.3 km/h. The window is normal
+ * if its g/km are from 3/4 to 5/4 of the curve, both included, compared exactly. It is not normal if D is 0, or if the curve is 0 or less
+ * there. */
 
 /* The rules of a verdict. n: the trip's samples. Of a class: N its samples, S its distance. D: the three distances together. V: a
  * sample's speed. A: the next sample's speed less the previous one's, a missing one being 0; a sample is accelerating if A is 8 or
@@ -256,6 +289,11 @@ rde_answer rde_tally(const uint8_t *block, size_t block_len, uint8_t *out, size_
  * a and b may be the same bytes. Refusals, in this order: RDE_LENGTH (of out), RDE_TALLY (a or b not RDE_TALLY_LEN bytes, or above a
  * limit of the table), RDE_JOINED; out is then as it was. */
 rde_answer rde_join(const uint8_t *a, size_t a_len, const uint8_t *b, size_t b_len, uint8_t *out, size_t out_len);
+
+/* The CO2 windows of a block of sample records (their seconds are not looked at), 0 to RDE_MAX_SAMPLES of them, by a reference record.
+ * Its time grows with the length of the block alone, whatever M is. The two may share bytes; nothing is written.
+ * Refusals, in this order: RDE_REFERENCE, RDE_RECORD_LENGTH (of the block), RDE_FULL, RDE_RANGE (of any record of the block). */
+rde_co2_answer rde_co2(const uint8_t *block, size_t block_len, const uint8_t *reference, size_t reference_len);
 
 #ifdef __cplusplus
 }

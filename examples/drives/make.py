@@ -10,6 +10,7 @@ summer.drive     the exceeded drive at 302.5 to 306.5 K: from 303.1 K on its NOx
 fast.drive       the clean drive with one second above 160 km/h, which breaks rule 11
 downhill.drive   the clean drive from a hill down into a valley 300 m below, which breaks rule 21
 short.drive      the first 20 minutes of the clean drive, which breaks rule 0 and others
+plausible.drive  the clean drive with CO2 that follows the speed, some 200 to 240 g/km over 1.3 kg of it; the others have 2000 mg/s
 
 The speed profile is that of tests/reckoning/drives.py: a town part with stops and a mean of 25 km/h, then swings between
 65.0 and 85.1 km/h, then between 101.0 and 119.1 km/h, each part of more than 20 km.
@@ -22,7 +23,13 @@ import sys
 HERE = os.path.dirname(os.path.abspath(__file__))
 sys.path.insert(0, os.path.join(HERE, '..', '..', 'tests', 'reckoning'))
 
+import co2  # noqa: E402
 import drives  # noqa: E402
+
+
+def with_following_co2(drive):
+    amounts = co2.following_co2([sample.speed for sample in drive])
+    return [sample._replace(co2=amount) for sample, amount in zip(drive, amounts)]
 
 
 def main():
@@ -38,6 +45,7 @@ def main():
         'summer': drives.summer_drive(),
         'downhill': drives.downhill_drive(),
         'short': clean[:1200],
+        'plausible': with_following_co2(clean),
     }
     for name, drive in recorded.items():
         with open(os.path.join(folder, name + '.drive'), 'wb') as file:

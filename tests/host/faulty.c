@@ -123,7 +123,90 @@ enum {
     JOIN_ABOVE_SECOND,     /* and in the second */
     JOIN_BEFORE,           /* tallies without the last field are joined */
     JOIN_OUTPUT_BEFORE,    /* an output without room for the last field is taken */
-    JOIN_OVERWRITE         /* a byte behind the output is written */
+    JOIN_OVERWRITE,        /* a byte behind the output is written */
+    CO2_ABOVE,             /* a window is complete where its CO2 is above M */
+    CO2_SUM_SHORT,         /* its CO2 is cut to 16 bits there */
+    CO2_M_SIGNED,          /* M is taken for a signed number */
+    CO2_LAST_CO2,          /* the sample that completes a window is left out of its CO2 */
+    CO2_LAST_DISTANCE,     /* out of its distance */
+    CO2_LAST_COUNT,        /* out of its samples */
+    CO2_LAST,              /* out of the three */
+    CO2_OPENING,           /* the sample that opens it is left out of the three */
+    CO2_APART,             /* the next window opens behind a complete one */
+    CO2_ONE_EACH,          /* a sample completes one window at most */
+    CO2_INCOMPLETE,        /* windows never complete count as they are at the end */
+    CO2_ONE_LESS,          /* the complete windows are one less */
+    CO2_ONE_MORE,          /* they are one more */
+    CO2_SECOND_CALL,       /* they are so in every second call */
+    CO2_SECOND_EARLY,      /* the second line holds from 56.5 km/h on */
+    CO2_SECOND_UNIT,       /* it holds from one unit of distance below 56.6 km/h on */
+    CO2_FIRST_LATE,        /* the first line holds up to 56.7 km/h */
+    CO2_FIRST_UNIT,        /* it holds up to one unit of distance above 56.6 km/h */
+    CO2_LEVEL_BELOW,       /* the curve is level below 19.0 km/h */
+    CO2_LEVEL_ABOVE,       /* it is level above 92.3 km/h */
+    CO2_WIDTH,             /* the second line is as wide as the first */
+    CO2_SWAPPED,           /* c1 and c3 are swapped */
+    CO2_MOVING,            /* the mean speed is that of the moving samples */
+    CO2_MEAN_ROUNDED,      /* it is rounded down to 0.1 km/h */
+    CO2_QUARTER_OWN,       /* a quarter is one of the g/km, not of the curve */
+    CO2_LOW_OPEN,          /* 3/4 of the curve is not normal */
+    CO2_HIGH_OPEN,         /* 5/4 is not */
+    CO2_LOW_ALONE,         /* all from 3/4 on is normal */
+    CO2_HIGH_ALONE,        /* all up to 5/4 is */
+    CO2_STILL,             /* no distance is normal */
+    CO2_ZERO,              /* a curve of 0 is normal */
+    CO2_MAGNITUDE,         /* a curve below 0 is taken without its sign */
+    CO2_ROUNDED,           /* the g/km are rounded to the nearest whole number */
+    CO2_ROUNDED_DOWN,      /* they are rounded down */
+    CO2_CURVE_ROUNDED,     /* the curve is rounded down to a whole number */
+    CO2_PRODUCTS_SHORT,    /* the two sides compared are cut to 32 bits */
+    CO2_TIMES_SHORT,       /* 36 x m is cut to 32 bits */
+    CO2_PASS_MORE,         /* more than half must be normal */
+    CO2_PASS_LESS,         /* half of an odd number is rounded down */
+    CO2_PASS_NONE,         /* none complete is a pass */
+    CO2_PASS_ALL,          /* half of all windows must be normal */
+    CO2_PASS_TWO,          /* pass is 2 for 1 */
+    CO2_SECONDS,           /* a second out of turn is refused with 3 */
+    CO2_14_AFTER_1,        /* 14 is given after 1 */
+    CO2_14_AFTER_5,        /* after 5 */
+    CO2_14_AFTER_4,        /* after 4 */
+    CO2_1_AFTER_5,         /* 1 is given after 5 */
+    CO2_1_AFTER_4,         /* after 4 */
+    CO2_5_AFTER_4,         /* 5 is given after 4 */
+    CO2_M_LESS,            /* an M of 0 is taken */
+    CO2_M_MORE,            /* one of 1 is refused */
+    CO2_C1_LESS,           /* a c1 of 0 is taken */
+    CO2_C1_MORE,           /* one of 1001 is taken */
+    CO2_C2_LESS,           /* a c2 of 0 is */
+    CO2_C2_MORE,           /* one of 1001 is */
+    CO2_C3_LESS,           /* a c3 of 0 is */
+    CO2_C3_MORE,           /* one of 1001 is */
+    CO2_C_FROM_MORE,       /* a c of 1 is refused */
+    CO2_C_TO_LESS,         /* one of 1000 is refused */
+    CO2_BYTE_10,           /* byte 10 of the reference record, the first of its zeros, is not looked at */
+    CO2_BYTE_11,           /* byte 11 is not */
+    CO2_BYTE_12,           /* byte 12 is not */
+    CO2_BYTE_13,           /* byte 13 is not */
+    CO2_BYTE_14,           /* byte 14 is not */
+    CO2_BYTE_15,           /* byte 15, the last one, is not */
+    CO2_REFERENCE_SHORT,   /* a reference record of 15 bytes is taken */
+    CO2_REFERENCE_LONG,    /* one of 17 bytes is taken */
+    CO2_REFERENCE_TWO,     /* one of 32 bytes is taken */
+    CO2_LENGTH,            /* bytes behind the last whole record are left out */
+    CO2_FULL_EARLY,        /* a block of 7201 samples is refused */
+    CO2_FULL_LATE,         /* one of 7202 is taken */
+    CO2_RANGE_COMPLETE,    /* samples behind the last complete window are not checked */
+    CO2_RANGE_USED,        /* only the speed and the CO2 are checked */
+    CO2_REFUSED_COMPLETE,  /* a refusal has complete windows */
+    CO2_REFUSED_NORMAL,    /* it has normal ones */
+    CO2_REFUSED_PASS,      /* it has a pass */
+    CO2_BLOCK_OVERREAD,    /* a byte behind the block is read */
+    CO2_BLOCK_UNDERREAD,   /* a byte before it is read */
+    CO2_BLOCK_WRITES,      /* a byte of it is written */
+    CO2_REFERENCE_OVER,    /* a byte behind the reference record is read */
+    CO2_REFERENCE_UNDER,   /* a byte before it is read */
+    CO2_REFERENCE_WRITES,  /* a byte of it is written */
+    CO2_ENDLESS            /* a call with no complete window does not end */
 };
 
 static int chosen(void)
@@ -148,6 +231,7 @@ rde_answer __real_rde_read(const uint8_t *area, size_t area_len, uint32_t window
 rde_verdict_answer __real_rde_verdict(const uint8_t *area, size_t area_len);
 rde_answer __real_rde_tally(const uint8_t *block, size_t block_len, uint8_t *out, size_t out_len);
 rde_answer __real_rde_join(const uint8_t *a, size_t a_len, const uint8_t *b, size_t b_len, uint8_t *out, size_t out_len);
+rde_co2_answer __real_rde_co2(const uint8_t *block, size_t block_len, const uint8_t *reference, size_t reference_len);
 
 static rde_answer refused(uint32_t refusal)
 {
@@ -766,4 +850,244 @@ rde_answer __wrap_rde_join(const uint8_t *a, size_t a_len, const uint8_t *b, siz
     if (out_len == RDE_TALLY_LEN)
         join_told(a, out);
     return j;
+}
+
+/* --- CO2 windows: reckoned here at these faults, and at none, when it must be the library's answer --- */
+
+typedef struct {
+    int64_t mass, c[3];
+} co2_reference;
+
+/* Of a window, or a part of one. */
+typedef struct {
+    int64_t co2, distance, samples, moving;
+} co2_sums;
+
+static int64_t u32_at(const uint8_t *p)
+{
+    return (uint32_t)i32_at(p);
+}
+
+static co2_reference co2_decoded(const uint8_t *reference)
+{
+    co2_reference r = {u32_at(reference), {u16_at(reference + 4), u16_at(reference + 6), u16_at(reference + 8)}};
+    if (on(CO2_M_SIGNED))
+        r.mass = (int32_t)r.mass;
+    if (on(CO2_SWAPPED))
+        r = (co2_reference){r.mass, {r.c[2], r.c[1], r.c[0]}};
+    return r;
+}
+
+/* A sample more, or one less. */
+static void co2_add(co2_sums *w, const uint8_t *record, int times)
+{
+    int64_t speed = u16_at(record + 2);
+    w->co2 += times * u32_at(record + 12);
+    w->distance += times * speed;
+    w->samples += times;
+    w->moving += times * (speed > 0);
+}
+
+static int co2_reached(const co2_sums *w, const co2_reference *r)
+{
+    return (on(CO2_SUM_SHORT) ? (uint16_t)w->co2 : w->co2) >= r->mass + on(CO2_ABOVE);
+}
+
+/* A complete window without what these faults leave out. */
+static co2_sums co2_left(co2_sums w, const uint8_t *opening, const uint8_t *last)
+{
+    int whole = on(CO2_LAST) || on(CO2_OPENING);
+    co2_sums less = {0};
+    co2_add(&less, on(CO2_OPENING) ? opening : last, 1);
+    w.co2 -= whole || on(CO2_LAST_CO2) ? less.co2 : 0;
+    w.distance -= whole || on(CO2_LAST_DISTANCE) ? less.distance : 0;
+    w.samples -= whole || on(CO2_LAST_COUNT) ? less.samples : 0;
+    return w;
+}
+
+/* The curve at the mean distance / n, times `by`. */
+static int64_t co2_curve(const co2_reference *r, int64_t distance, int64_t n, int64_t *by)
+{
+    static const int64_t from[] = {190, 566}, width[] = {376, 357};
+    int64_t middle = 566 * n; /* the second line holds above it */
+    int second;
+    middle -= (n + 1) * on(CO2_SECOND_EARLY) + 2 * on(CO2_SECOND_UNIT) - n * on(CO2_FIRST_LATE) - on(CO2_FIRST_UNIT);
+    second = distance > middle;
+    if ((on(CO2_LEVEL_BELOW) && distance < 190 * n) || (on(CO2_LEVEL_ABOVE) && distance > 923 * n))
+        distance = second ? 923 * n : 190 * n;
+    if (on(CO2_MEAN_ROUNDED))
+        distance -= distance % n;
+    *by = width[on(CO2_WIDTH) ? 0 : second] * n;
+    return r->c[second] * *by + (r->c[second + 1] - r->c[second]) * (distance - from[second] * n);
+}
+
+/* The g/km, the curve and a quarter are compared times `by` and the distance. */
+static int co2_normal(const co2_reference *r, const co2_sums *w)
+{
+    int64_t by, curve = co2_curve(r, w->distance, on(CO2_MOVING) ? w->moving : w->samples, &by);
+    int64_t times = on(CO2_TIMES_SHORT) ? (uint32_t)(36 * w->co2) : 36 * w->co2, above, of;
+    if (w->distance == 0)
+        return on(CO2_STILL);
+    if (curve <= 0 && !on(CO2_MAGNITUDE))
+        return curve == 0 && on(CO2_ZERO);
+    if (on(CO2_ROUNDED) || on(CO2_ROUNDED_DOWN))
+        times = (times + on(CO2_ROUNDED) * w->distance / 2) / w->distance * w->distance;
+    if (on(CO2_CURVE_ROUNDED))
+        curve -= curve % by;
+    times *= by;
+    curve = llabs(curve) * w->distance;
+    if (on(CO2_PRODUCTS_SHORT)) {
+        times = (uint32_t)times;
+        curve = (uint32_t)curve;
+    }
+    above = times - curve;
+    of = on(CO2_QUARTER_OWN) ? times : curve;
+    return (4 * above + of >= on(CO2_LOW_OPEN) || on(CO2_HIGH_ALONE)) && (4 * above + on(CO2_HIGH_OPEN) <= of || on(CO2_LOW_ALONE));
+}
+
+/* The complete windows and the normal ones of n samples. */
+static rde_co2_answer co2_windows(const uint8_t *block, int n, const co2_reference *r)
+{
+    co2_sums w = {0};
+    rde_co2_answer a = {0};
+    int end = 0; /* behind the window's last sample */
+    for (int first = 0; first < n; first++) {
+        int least = on(CO2_ONE_EACH) ? end + 1 : first + 1;
+        co2_sums judged;
+        while (end < n && (end < least || !co2_reached(&w, r)))
+            co2_add(&w, block + RDE_RECORD_LEN * end++, 1);
+        if ((end < least || !co2_reached(&w, r)) && !on(CO2_INCOMPLETE))
+            break;
+        judged = co2_left(w, block + RDE_RECORD_LEN * first, block + RDE_RECORD_LEN * (end - 1));
+        a.complete++;
+        a.normal += (uint32_t)co2_normal(r, &judged);
+        co2_add(&w, block + RDE_RECORD_LEN * first, -1);
+        if (on(CO2_APART)) {
+            w = (co2_sums){0};
+            first = end - 1;
+        }
+    }
+    return a;
+}
+
+static uint32_t co2_pass(const rde_co2_answer *a, uint32_t samples)
+{
+    uint32_t of = on(CO2_PASS_ALL) ? samples : a->complete;
+    if (a->complete == 0)
+        return (uint32_t)on(CO2_PASS_NONE);
+    return (2 * a->normal + (uint32_t)on(CO2_PASS_LESS) >= of + (uint32_t)on(CO2_PASS_MORE)) * (1 + (uint32_t)on(CO2_PASS_TWO));
+}
+
+static int co2_reference_taken(const uint8_t *reference, size_t len)
+{
+    int64_t mass = u32_at(reference);
+    int taken = mass >= 1 - on(CO2_M_LESS) + on(CO2_M_MORE);
+    for (int k = 0; k < 3; k++)
+        taken = taken && within(u16_at(reference + 4 + 2 * k), 1 - on(CO2_C1_LESS + 2 * k) + on(CO2_C_FROM_MORE),
+                                1000 + on(CO2_C1_MORE + 2 * k) - on(CO2_C_TO_LESS));
+    for (int k = 0; k < 6; k++)
+        taken = taken && (reference[10 + k] == 0 || on(CO2_BYTE_10 + k));
+    return taken && (len == RDE_RECORD_LEN || (on(CO2_REFERENCE_SHORT) && len == 15) || (on(CO2_REFERENCE_LONG) && len == 17) ||
+                     (on(CO2_REFERENCE_TWO) && len == 32));
+}
+
+static int co2_in_range(const uint8_t *record)
+{
+    static const int32_t ends[6][2] = {{0, 3000}, {-500, 5000}, {2000, 3500}, {0, 20000}, {0, 5000}, {0, 100000}};
+    for (int k = 0; k < 6; k++)
+        if (!within(channel_value(record, k), ends[k][0], ends[k][1]) && !(on(CO2_RANGE_USED) && within(k, 1, 4)))
+            return 0;
+    return 1;
+}
+
+/* How many samples are checked. */
+static int co2_checked(const uint8_t *block, int n, int64_t mass)
+{
+    int64_t co2 = 0;
+    int first = n;
+    if (!on(CO2_RANGE_COMPLETE))
+        return n;
+    while (first > 0 && co2 < mass)
+        co2 += u32_at(block + RDE_RECORD_LEN * --first + 12);
+    if (co2 < mass || mass == 0)
+        return 0;
+    while (co2 >= mass)
+        co2 -= u32_at(block + RDE_RECORD_LEN * --n + 12);
+    return n + 1;
+}
+
+/* The refusal, or 0: the first that is due, or at a fault of the order another that is due too. */
+static uint32_t co2_refusal(const uint8_t *block, size_t block_len, const uint8_t *reference, size_t reference_len)
+{
+    static const uint32_t numbers[] = {RDE_REFERENCE, RDE_RECORD_LENGTH, RDE_FULL, RDE_RANGE};
+    static const int after[3][4] = {{0, CO2_14_AFTER_1, CO2_14_AFTER_5, CO2_14_AFTER_4}, {0, 0, CO2_1_AFTER_5, CO2_1_AFTER_4},
+                                    {0, 0, 0, CO2_5_AFTER_4}};
+    int n = (int)(block_len / RDE_RECORD_LEN), checked = co2_checked(block, n, u32_at(reference)), k = 0;
+    int due[4] = {!co2_reference_taken(reference, reference_len), block_len % RDE_RECORD_LEN != 0 && !on(CO2_LENGTH),
+                  n > RDE_MAX_SAMPLES - on(CO2_FULL_EARLY) + on(CO2_FULL_LATE), 0};
+    for (int i = 0; i < checked; i++)
+        due[3] = due[3] || !co2_in_range(block + RDE_RECORD_LEN * i);
+    while (k < 4 && !due[k])
+        k++;
+    for (int later = k + 1; later < 4; later++)
+        if (due[later] && on(after[k][later]))
+            return numbers[later];
+    for (int i = 0; i < n && k == 4 && on(CO2_SECONDS); i++)
+        if (second_of(block + RDE_RECORD_LEN * i) != (unsigned)i)
+            return RDE_SECOND;
+    return k < 4 ? numbers[k] : 0;
+}
+
+static rde_co2_answer co2_answer(const uint8_t *block, size_t block_len, const uint8_t *lent, size_t reference_len)
+{
+    static uint32_t calls;
+    uint8_t reference[RDE_RECORD_LEN] = {0};
+    co2_reference r;
+    rde_co2_answer a;
+    uint32_t refusal, n = (uint32_t)(block_len / RDE_RECORD_LEN);
+    memcpy(reference, lent, reference_len < sizeof reference ? reference_len : sizeof reference);
+    refusal = co2_refusal(block, block_len, reference, reference_len);
+    if (refusal != 0)
+        return (rde_co2_answer){refusal, (uint32_t)on(CO2_REFUSED_COMPLETE), (uint32_t)on(CO2_REFUSED_NORMAL),
+                                (uint32_t)on(CO2_REFUSED_PASS)};
+    r = co2_decoded(reference);
+    a = co2_windows(block, (int)n, &r);
+    a.complete += (uint32_t)(on(CO2_ONE_MORE) || (on(CO2_SECOND_CALL) && ++calls % 2 == 0));
+    a.complete -= (uint32_t)(on(CO2_ONE_LESS) && a.complete > 0);
+    a.pass = co2_pass(&a, n);
+    return a;
+}
+
+/* What these faults do beside the answer. */
+static void co2_strays(const uint8_t *block, size_t block_len, const uint8_t *reference, size_t reference_len)
+{
+    static volatile uint8_t seen;
+    if (on(CO2_BLOCK_OVERREAD))
+        seen = block[block_len];
+    if (on(CO2_BLOCK_UNDERREAD))
+        seen = *(block - 1);
+    if (on(CO2_REFERENCE_OVER))
+        seen = reference[reference_len];
+    if (on(CO2_REFERENCE_UNDER))
+        seen = *(reference - 1);
+    if (on(CO2_BLOCK_WRITES) && block_len > 0)
+        ((uint8_t *)block)[block_len / 2]++;
+    if (on(CO2_REFERENCE_WRITES) && reference_len > 0)
+        ((uint8_t *)reference)[reference_len / 2]++;
+    (void)seen;
+}
+
+rde_co2_answer __wrap_rde_co2(const uint8_t *block, size_t block_len, const uint8_t *reference, size_t reference_len)
+{
+    rde_co2_answer a = __real_rde_co2(block, block_len, reference, reference_len), own;
+    if (on(NONE) || within(chosen(), CO2_ABOVE, CO2_REFUSED_PASS)) {
+        own = co2_answer(block, block_len, reference, reference_len);
+        if (on(NONE) && memcmp(&own, &a, sizeof own) != 0)
+            return (rde_co2_answer){RDE_DAMAGED, 0, 0, 0};
+        a = own;
+    }
+    co2_strays(block, block_len, reference, reference_len);
+    for (volatile int k = on(CO2_ENDLESS) && a.complete == 0; k != 0;)
+        ;
+    return a;
 }

@@ -48,7 +48,7 @@ typedef struct {
 /* --- Figures and faults --- */
 
 #ifndef MOST_SECONDS
-#define MOST_SECONDS 60 /* of processor time: more than any list of calls, area or tally takes */
+#define MOST_SECONDS 60 /* of processor time: more than any list of calls, area, tally or block takes */
 #endif
 
 /* What follows must end within MOST_SECONDS; other work on the machine does not count. */

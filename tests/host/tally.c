@@ -13,9 +13,8 @@
 
 #define FILL 0xa5
 
-typedef struct {
+static struct {
     guarded first, second, out;
-    int low; /* which page the buffers of this line stand against */
 } memory;
 
 /* Is the answer, with what stands in out, the one that the line states? */
@@ -36,51 +35,29 @@ static int agrees(rde_answer a, const uint8_t *out, size_t len, char *line)
     return 1;
 }
 
-static uint8_t *placed(guarded g, const char *word, int low, size_t *len)
+static const char *test(char *line, int low)
 {
-    *len = hex_length(word);
-    uint8_t *place = guarded_place(g, *len, low);
-    hex_bytes(word, place);
-    return place;
-}
-
-static int line_passes(memory m, char *line)
-{
-    char *call = next_word(&line), *a = next_word(&line);
-    char *b = strcmp(call, "join") == 0 ? next_word(&line) : NULL;
-    size_t len = strtoul(next_word(&line), NULL, 10), a_len, b_len;
-    uint8_t *out = guarded_place(m.out, len, m.low), *first = placed(m.first, a, m.low, &a_len), *second;
+    const char *call = next_word(&line);
+    int joins = call != NULL && strcmp(call, "join") == 0;
+    size_t a_len, b_len;
+    const uint8_t *a = placed(memory.first, next_word(&line), low, &a_len);
+    const uint8_t *b = joins ? placed(memory.second, next_word(&line), low, &b_len) : a;
+    uint8_t *out;
+    uint32_t len;
     rde_answer answer;
+    if (call == NULL || (!joins && strcmp(call, "tally") != 0) || a == NULL || b == NULL || !next_number(&line, &len))
+        return UNREADABLE;
+    out = guarded_place(memory.out, len, low);
     next_word(&line); /* the arrow */
     memset(out, FILL, len);
-    if (b == NULL) {
-        answer = rde_tally(first, a_len, out, len);
-    } else {
-        second = placed(m.second, b, m.low, &b_len);
-        answer = rde_join(first, a_len, second, b_len, out, len);
-    }
-    return agrees(answer, out, len, line);
+    answer = joins ? rde_join(a, a_len, b, b_len, out, len) : rde_tally(a, a_len, out, len);
+    return agrees(answer, out, len, line) ? NULL : "differs";
 }
 
 int main(void)
 {
-    static char line[1 << 20];
-    memory m = {guarded_new(1 << 18), guarded_new(1 << 18), guarded_new(1 << 12), 0};
-    long number;
-    catch_faults();
-    while (fgets(line, sizeof line, stdin) != NULL) {
-        if (strncmp(line, "tally", 5) != 0 && strncmp(line, "join", 4) != 0)
-            continue;
-        number = run.passed + run.failed;
-        m.low = number % 2;
-        snprintf(run.place, sizeof run.place, "tally or join %ld", number + 1);
-        must_end();
-        if (line_passes(m, line)) {
-            run.passed++;
-        } else {
-            run.failed++;
-            printf("tally or join %ld differs\n", number + 1);
-        }
-    }
-    return finish();
+    memory.first = guarded_new(1 << 18);
+    memory.second = guarded_new(1 << 18);
+    memory.out = guarded_new(1 << 12);
+    return each_line("tally or join", test);
 }

@@ -1,8 +1,9 @@
-"""Calls, tallies and reports with their answers by the outside reckoning, as terms
-and equations of the language antt, which the prover's `refl` checks by computing.
+"""Calls, tallies, CO2 windows and reports with their answers by the outside reckoning, as
+terms and equations of the language antt, which the prover's `refl` checks by computing.
 compare.py puts them into a scratch crate.
 """
 
+import co2
 import drives
 import generate
 import reference
@@ -44,7 +45,7 @@ def answer_term(answer):
         return '(refused %d)' % answer[1]
     _, mask, exceeded, finding = answer
     return ('(judged (record { broken = %d; exceeded = %s; finding = %s }))'
-            % (mask, 'true' if exceeded else 'false', finding_term(finding)))
+            % (mask, bool_term(exceeded), finding_term(finding)))
 
 
 def written_term(answer):
@@ -52,6 +53,18 @@ def written_term(answer):
     if isinstance(answer, bytes):
         return 'wrote %s' % bytes_term(answer)
     return 'unwritten %d' % answer[1]
+
+
+def bool_term(mark):
+    return 'true' if mark else 'false'
+
+
+def checked_term(answer):
+    """What the check of CO2 windows comes to, or its refusal."""
+    if answer.refusal:
+        return 'unchecked %d' % answer.refusal
+    return ('checked (record { complete = %d; normal = %d; pass = %s })'
+            % (answer.complete, answer.normal, bool_term(answer.passed)))
 
 
 def list_equation(calls, answers):
@@ -67,6 +80,11 @@ def tally_equation(block, length):
 def join_equation(a, b, length):
     return ('joined %s %s %d' % (bytes_term(a), bytes_term(b), length),
             written_term(reference.join(a, b, length)))
+
+
+def co2_equation(block, record):
+    return ('co2_checked %s %s' % (bytes_term(block), bytes_term(record)),
+            checked_term(reference.co2_check(block, record)))
 
 
 def report_equation(data):
@@ -134,7 +152,7 @@ def edge_lists():
     return [(calls, reference.replay(calls)) for calls in lists]
 
 
-# --- Tallies and reports -----------------------------------------------------
+# --- Tallies, CO2 windows and reports ----------------------------------------
 
 def tally_equations(rng, count):
     """The blocks and joins for extended U; then blocks of up to six records and joins of
@@ -151,6 +169,16 @@ def tally_equations(rng, count):
             a, b = generate.random_tally(rng), generate.random_tally(rng)
             equations.append(join_equation(a, b, length))
     return equations
+
+
+def co2_equations(rng, count):
+    """The named cases, and random ones of up to sixteen records."""
+    cases = co2.named_cases()
+    while len(cases) < count:
+        case = co2.random_case(rng)
+        if len(case.block) <= 256:
+            cases.append(case)
+    return [co2_equation(case.block, case.reference) for case in cases[:count]]
 
 
 def report_equations(rng, count):

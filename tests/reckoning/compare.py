@@ -1,6 +1,6 @@
 """Compares the definitions of crates/model with the outside reckoning: the prover
-computes the definitions' answers to random lists of calls, tallies and reports,
-and must find them equal to the reckoning's.
+computes the definitions' answers to random lists of calls, tallies, CO2 windows and
+reports, and must find them equal to the reckoning's.
 
 Run: python3 tests/reckoning/compare.py [--lists 300] [--verdicts 20] [--seed 1] ..
 
@@ -33,10 +33,10 @@ use Rattle.std.specs.Prelude.{true, false, [], ◌∷◌, ◌≡◌, refl, pos, 
 use Rattle.model.specs.declared.Finding.TheVariants.{Rule, Exceeded, Clean}
 use Rattle.model.specs.Trip as trip
 use Rattle.model.specs.Trip.{number, judged, refused, empty}
-use Rattle.model.specs.Blocks.{wrote, unwritten}
+use Rattle.model.specs.Blocks.{wrote, unwritten, checked, unchecked}
 """
-FILES = ('Numbers', 'Records', 'Windows', 'Rules', 'Verdicts', 'Tallies', 'Refusals',
-         'Trip', 'Blocks', 'Report')
+FILES = ('Numbers', 'Records', 'Windows', 'Rules', 'Verdicts', 'Tallies', 'Co2Windows',
+         'Refusals', 'Trip', 'Blocks', 'Report')
 PER_FILE = 25
 
 
@@ -84,10 +84,13 @@ def all_equations(options):
     drives = antt.verdict_lists(rng, options.verdicts)
     edges = antt.edge_lists() if options.edges else []
     tallies = antt.tally_equations(rng, options.tallies)
+    windows = antt.co2_equations(rng, options.co2)
     reports = antt.report_equations(rng, options.reports)
-    print('%d small lists of calls, %d drives, %d drives on a rule\'s edge, %d tallies and joins, %d reports'
-          % (len(small), len(drives), len(edges), len(tallies), len(reports)))
-    return [antt.list_equation(*calls) for calls in small + drives + edges] + tallies + reports
+    print('%d small lists of calls, %d drives, %d drives on a rule\'s edge, %d tallies and joins, '
+          '%d CO2 windows of a block, %d reports'
+          % (len(small), len(drives), len(edges), len(tallies), len(windows), len(reports)))
+    lists = [antt.list_equation(*calls) for calls in small + drives + edges]
+    return lists + tallies + windows + reports
 
 
 def write_crate(folder, equations, starts):
@@ -128,6 +131,7 @@ def main():
     parser.add_argument('--lists', type=int, default=300)
     parser.add_argument('--verdicts', type=int, default=20)
     parser.add_argument('--tallies', type=int, default=90)
+    parser.add_argument('--co2', type=int, default=500)
     parser.add_argument('--reports', type=int, default=30)
     parser.add_argument('--no-edges', dest='edges', action='store_false')
     parser.add_argument('--seed', type=int, default=1)

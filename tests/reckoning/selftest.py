@@ -1,20 +1,24 @@
 """Checks of the reckoning itself: the marked cases (a) to (i) of document 01,
-the reports, rule 21 of document 02's R-1, the weights of its R-2 and the averages of
-its R-4 by hand, the rolling recount, the edge drives, and what the generator reaches.
+the reports, rule 21 of document 02's R-1, the weights of its R-2, the averages of
+its R-4 and the CO2 windows of its R-5 by hand, the rolling recount, the edge drives,
+and what the generator reaches.
 Run: python3 tests/reckoning/selftest.py
 """
 
 import glob
 import os
 import random
+import re
 import sys
+from fractions import Fraction
 
 import antt
+import co2
 import drives
 import generate
 import reference
 from reference import (AVERAGE, COUNT, LARGEST, PERCENTILE, SMALLEST, SUM, TALLY_LENGTH,
-                       Sample, Trip, Window)
+                       CO2Window, Sample, Trip, Window)
 
 RESULTS = []
 EXAMPLES = os.path.join(os.path.dirname(os.path.abspath(__file__)),
@@ -496,6 +500,725 @@ def average_lists():
     check('great sums just above a half', len(counts_at(great, 1, 2)) >= 30, True)
 
 
+# --- CO2 windows (R-5) -------------------------------------------------------
+
+# Two curves whose slopes are 5 and 10 g/km for each km/h, up and down.
+UP, DOWN = (100, 288, 645), (700, 512, 155)
+
+# Mean speed in tenths of km/h, g/km; of the last curve 1 - 190 / 37.6 and 1 - 38 / 37.6.
+CURVES = {UP: {0: 5, 100: 55, 189: Fraction(199, 2), 190: 100, 191: Fraction(201, 2), 378: 194,
+               565: Fraction(575, 2), 566: 288, 567: 289, 700: 422, 922: 644, 923: 645, 924: 646,
+               1000: 722, 3000: 2722},
+          DOWN: {0: 795, 100: 745, 190: 700, 300: 645, 566: 512, 567: 511, 923: 155, 924: 154,
+                 1077: 1, 1078: 0, 1079: -1, 3000: -1922},
+          (1, 11, 1000): {0: Fraction(-1524, 376), 152: Fraction(-4, 376)}}
+
+# Curve, speeds, the least and the most CO2 of a normal window.  At 566 it is 288 g/km, three
+# quarters are 216 and five 360, which are 3396 and 5660 mg in 566 / 36,000 km; at 1000 722, so
+# 541.5 to 902.5, or 15041.7 to 25069.4 mg; at 100 55, 41.25 to 68.75, 114.6 to 190.97 mg; at
+# 378 194, 145.5 to 242.5, 1527.75 to 2546.25 mg; at 567 289, 216.75 to 361.25, 3413.8 to 5689.7
+# mg; at 190 100, 75 to 125, 395.8 to 659.7 mg; at 923 645, 483.75 to 806.25, 12402.8 to 20671.4
+# mg; at 1077 1, 0.75 to 1.25, 22.4 to 37.4 mg.  0 and 380 have a mean of 19.0 and a distance of
+# 380, so 791.7 to 1319.4 mg; 0, 0 and 300 one of 10.0 and 300, so 343.75 to 572.9 mg; 1131 and
+# 2 one of 56.65 and 1133, so 288.5 g/km, 216.375 to 360.625, 6809.8 to 11349.7 mg.
+NORMAL_RANGES = [(UP, [566], 3396, 5660), (UP, [1000], 15042, 25069), (UP, [100], 115, 190),
+                 (UP, [378], 1528, 2546), (UP, [567], 3414, 5689), (UP, [190], 396, 659),
+                 (UP, [923], 12403, 20671), (DOWN, [1077], 23, 37), (UP, [0, 380], 792, 1319),
+                 (UP, [380, 0], 792, 1319), (UP, [0, 0, 300], 344, 572),
+                 (UP, [1131, 2], 6810, 11349), (UP, [2, 1131], 6810, 11349)]
+
+# Refusal, complete, normal, pass of named cases.
+CO2_ANSWERS = {
+    'no samples': (0, 0, 0, 0),
+    'M by one sample': (0, 1, 1, 1),
+    'M below one sample': (0, 1, 1, 1),
+    'M one mg above one sample': (0, 0, 0, 0),
+    # 100, 125, 125.1, 75 and 74.9 g/km
+    'each at its own first sample': (0, 5, 3, 1),
+    # the last has 749 mg
+    'all but one at their own first sample': (0, 4, 3, 1),
+    # 1, 0, 3, 0, 1 and 0 mg at 1, 1, 1, 1, 0 and 1: 36, 108 / 2, 108, 36 / 1 and no distance
+    'M of 1': (0, 5, 2, 0),
+    # 4 mg in 3, 3 in 2, 3 in 1; 48, 54 and 108 of 36 g/km
+    'M of 2': (0, 3, 0, 0),
+    'M of 1, no CO2': (0, 0, 0, 0),
+    # 1 g on k / 1000 km, k from 11 down to 1: 1000 / k g/km, normal from 8 to 13
+    'no CO2 for long, then enough': (0, 11, 4, 0),
+    'no CO2 for long, then one mg short': (0, 0, 0, 0),
+    'enough CO2, then none': (0, 1, 0, 0),
+    # the last sample stands; 2100 mg in 2 moving seconds, 1800 in 2, 1800 in 1: 105, 90, 180 g/km
+    'M of 1799 in 1200, 900, 900, 900': (0, 3, 2, 1),
+    'M of 1800 in 1200, 900, 900, 900': (0, 3, 2, 1),
+    # 2100 in 2, 2700 in 2: 105, 135
+    'M of 1801 in 1200, 900, 900, 900': (0, 2, 1, 1),
+    'M of 2100 in 1200, 900, 900, 900': (0, 2, 1, 1),
+    # 3000 in 3, 2700 in 2: 100, 135
+    'M of 2101 in 1200, 900, 900, 900': (0, 2, 1, 1),
+    'M of 2700 in 1200, 900, 900, 900': (0, 2, 1, 1),
+    'M of 2701 in 1200, 900, 900, 900': (0, 1, 1, 1),
+    'M of 3000 in 1200, 900, 900, 900': (0, 1, 1, 1),
+    # 3900 in 3: 130
+    'M of 3001 in 1200, 900, 900, 900': (0, 1, 0, 0),
+    'M of 3900 in 1200, 900, 900, 900': (0, 1, 0, 0),
+    'M of 3901 in 1200, 900, 900, 900': (0, 0, 0, 0),
+    # 1800 in 4, 3 and 2 seconds: 45, 60, 90
+    'M of 1800, the block having 1800 after no CO2': (0, 3, 1, 0),
+    'M of 1801, the block having 1800 after no CO2': (0, 0, 0, 0),
+    'standstill': (0, 1, 0, 0),
+    'standstill, 3 samples': (0, 1, 0, 0),
+    'standstill, curve 0': (0, 1, 0, 0),
+    'standstill, curve below 0': (0, 1, 0, 0),
+    # 2 mg in 1 / 36,000 km: 72 g/km
+    'standstill, then one unit of distance': (0, 1, 1, 1),
+    'half of them at a standstill': (0, 2, 1, 1),
+    'two of three at a standstill': (0, 3, 1, 0),
+    # 2000 mg on 10 / 1000 km: 200 g/km, with a curve of 100 and of 200
+    'opened at a standstill': (0, 1, 0, 0),
+    'complete at a standstill': (0, 1, 1, 1),
+    'a window of 2 normal, complete with another': (0, 2, 2, 1),
+    'normal by turns': (0, 10, 5, 1),
+    '5 of 11 normal': (0, 11, 5, 0),
+}
+
+
+def co2_answer(pairs, mass, curve):
+    return tuple(reference.co2_check(co2.block_of(pairs), co2.record_of(mass, curve)))
+
+
+def window_sentences():
+    """"From each sample a window opens and is complete at the first sample where its CO2 ...
+    reaches M": with 3, 0, 2 and 4 mg and an M of 4 these are 3 + 0 + 2, 0 + 2 + 4, 2 + 4 and 4.
+    Each window is given by its CO2, its distance and its samples."""
+    samples = co2.samples_of([(1, 3), (10, 0), (100, 2), (1000, 4)])
+    for mass, windows in ((4, [(5, 111, 3), (6, 1110, 3), (6, 1100, 2), (4, 1000, 1)]),
+                          (5, [(5, 111, 3), (6, 1110, 3), (6, 1100, 2)]),
+                          (6, [(9, 1111, 4), (6, 1110, 3), (6, 1100, 2)]),
+                          (7, [(9, 1111, 4)]), (9, [(9, 1111, 4)]), (10, []),
+                          (1, [(3, 1, 1), (2, 110, 2), (2, 100, 1), (4, 1000, 1)])):
+        check('windows of 3, 0, 2, 4, M %d' % mass,
+              [tuple(w) for w in reference.complete_windows(samples, mass)], windows)
+
+
+def curve_sentences():
+    """"the line through (19.0 km/h, c1) and (56.6, c2) up to a mean speed of 56.6, beyond it
+    the line through (56.6, c2) and (92.3, c3)"; 36.0 km/h are 10 m in a second, and 1 g on
+    them is 100 g/km."""
+    for points, values in CURVES.items():
+        decoded = reference.decode_co2_reference(co2.record_of(1, points))
+        check('curve of %d, %d, %d' % points,
+              {mean: reference.curve(decoded, Fraction(mean, 10)) for mean in values}, values)
+    one, two = CO2Window(1000, 360, 1), CO2Window(3000, 360, 2)
+    check('distance, mean and g/km of one second and of two',
+          [f(window) for window in (one, two) for f in (
+              reference.window_distance, reference.window_mean_speed, reference.window_emissions)],
+          [Fraction(1, 100), 36, 100, Fraction(1, 100), 18, 300])
+
+
+def normal_sentences():
+    """"normal if its g/km is within a quarter of the curve, ends included, compared exactly;
+    with no distance, or a curve at or below 0, it isn't"."""
+    for points, speeds, least, most in NORMAL_RANGES:
+        for amount, normal in ((least - 1, 0), (least, 1), (least + 1, 1), (most - 1, 1),
+                               (most, 1), (most + 1, 0)):
+            check('%d mg at %s, curve of %d, %d, %d' % (amount, speeds, *points),
+                  co2_answer(co2.with_co2(speeds, amount), amount, points), (0, 1, normal, normal))
+    for speeds, amounts in (([0], (1, 2, 1000)), ([0, 0], (2, 100)), ([1078], (1, 29, 30)),
+                            ([1079], (1, 22, 30, 37)), ([2156, 0], (2, 60)), ([3000], (1, 100000))):
+        for amount in amounts:
+            check('%d mg at %s, curve of 700, 512, 155' % (amount, speeds),
+                  co2_answer(co2.with_co2(speeds, amount), amount, DOWN), (0, 1, 0, 0))
+
+
+def pass_sentences():
+    """"a pass exactly when some are complete and twice the normal ones are at least the
+    complete ones"."""
+    check('passes', [(complete, normal) for complete in range(6) for normal in range(complete + 1)
+                     if reference.co2_passed(complete, normal)],
+          [(1, 1), (2, 1), (2, 2), (3, 2), (3, 3), (4, 2), (4, 3), (4, 4), (5, 3), (5, 4), (5, 5)])
+
+
+def co2_named_answers():
+    """Named cases by hand, and those whose names state the answer."""
+    cases = co2.named_cases()
+    answers = {each.name: tuple(reference.co2_check(each.block, each.reference)) for each in cases}
+    check('named cases have a name each', len(answers), len(cases))
+    check('named cases are small', max(len(each.block) for each in cases) <= 12 * 16 + 15, True)
+    for name, answer in CO2_ANSWERS.items():
+        check(name, answers[name], answer)
+    told = [(name, answer) for name, answer in answers.items()
+            if re.search(r', (not )?normal$', name) or re.match('(not )?normal by the ', name)]
+    check('named cases are normal as their names say, %d of them' % len(told),
+          [name for name, answer in told if answer != ((0, 1, 0, 0) if 'not normal' in name
+                                                       else (0, 1, 1, 1))], [])
+    for complete in range(5):
+        for normal in range(complete + 1):
+            name = '%d complete, %d normal' % (complete, normal)
+            passes = int((complete, normal) in ((1, 1), (2, 1), (2, 2), (3, 2), (3, 3), (4, 2),
+                                                (4, 3), (4, 4)))
+            check(name, answers[name], (0, complete, normal, passes))
+    for name, answer in answers.items():
+        if re.match('reference of (M|c[123]|all) ', name) and '1001' not in name:
+            accepted = not re.search('0$|65535', name.replace('1000', '1'))
+            check(name, answer[0], 0 if accepted else 14)
+        if name.startswith('seconds '):
+            check(name, answer, (0, 1, 1, 1))
+
+
+def one_window(each):
+    """The CO2, the distance and the samples of the block, and c1, c2, c3; M is its CO2 and
+    the whole block is its one complete window."""
+    samples = reference.samples_of_block(each.block)
+    record = reference.decode_co2_reference(each.reference)
+    amount = sum(s.co2 for s in samples)
+    if record.mass != amount or samples[0].co2 == 0 or samples[-1].co2 == 0:
+        raise ValueError(each.name)
+    return amount, sum(s.speed for s in samples), len(samples), (record.c1, record.c2, record.c3)
+
+
+def multiplied_out(distance, count, points, first=None):
+    """The curve of the first line, or of the second, as a numerator and a denominator: at a
+    mean of distance / (10 x count) it is c1 + (c2 - c1) x (distance - 190 x count) / (376 x
+    count), or c2 + (c3 - c2) x (distance - 566 x count) / (357 x count)."""
+    c1, c2, c3 = points
+    if distance <= 566 * count if first is None else first:
+        return 376 * count * c1 + (c2 - c1) * (distance - 190 * count), 376 * count
+    return 357 * count * c2 + (c3 - c2) * (distance - 566 * count), 357 * count
+
+
+def normal_multiplied_out(amount, distance, curve):
+    """36 x CO2 / distance lies between three and five quarters of the curve, in whole numbers."""
+    above, below = curve
+    return (distance > 0 and above > 0
+            and 3 * above * distance <= 144 * amount * below <= 5 * above * distance)
+
+
+# Of a place on the curve: whether a distance is there, where `at` is a mean of 0.1 km/h.
+ON_CURVE = {'level': lambda at, distance: distance == 360 * at,
+            'first line': lambda at, distance: 190 * at < distance < 566 * at,
+            'second line': lambda at, distance: 566 * at < distance < 923 * at,
+            'below 19.0': lambda at, distance: 0 < distance < 190 * at,
+            'above 92.3': lambda at, distance: 923 * at < distance,
+            'at 19.0': lambda at, distance: distance == 190 * at,
+            'at 56.6': lambda at, distance: distance == 566 * at,
+            'at 92.3': lambda at, distance: distance == 923 * at}
+
+
+def quarter_names(cases):
+    """The g/km are at the quarter that is said, or one mg beside it; 144 x CO2 x denominator
+    is then three or five times distance x numerator, or one mg's share beside."""
+    met = {}
+    for each in cases:
+        parts = re.match(r'(?:one mg (below|above) )?([35])/4 of the curve, ([^,]*)', each.name)
+        if not parts:
+            continue
+        side, quarters, place = parts.groups()
+        amount, distance, count, points = one_window(each)
+        above, below = multiplied_out(distance, count, points)
+        off = {'below': -1, None: 0, 'above': 1}[side]
+        exact = 144 * (amount - off) * below == int(quarters) * above * distance
+        normal = (int(quarters), off) not in ((3, -1), (5, 1))
+        if not (exact and ON_CURVE[place](count, distance)
+                and reference.co2_check(each.block, each.reference).normal == normal):
+            check(each.name, False, True)
+        met.setdefault((place, int(quarters), off), set()).add(min(count, 2))
+    return met
+
+
+def quarter_edges():
+    met = quarter_names(co2.named_cases())
+    wanted = {(place, quarters, off) for place in ON_CURVE for quarters in (3, 5)
+              for off in (-1, 0, 1)}
+    check('g/km of three and five quarters, and one mg beside, on each part of the curve',
+          set(met), wanted)
+    check('there are such windows of one and of several samples, but for a level curve',
+          {place for (place, _, _), counts in met.items() if counts != {1, 2}}, {'level'})
+    long_met = quarter_names(co2.long_quarter_cases())
+    check('and of 7,200 samples', (len(long_met), set(long_met) <= wanted), (16, True))
+    for each in co2.own_quarter_cases():
+        amount, distance, count, points = one_window(each)
+        above, below = multiplied_out(distance, count, points)
+        off = abs(36 * amount * below - above * distance)
+        check(each.name, (4 * off <= above * distance, 4 * off <= 36 * amount * below),
+              ('curve alone' in each.name or 'both' in each.name,
+               'g/km alone' in each.name or 'both' in each.name))
+
+
+def told_names(cases):
+    """Windows just beside a point are judged as is said, and otherwise by the other line or
+    by a level curve."""
+    met = set()
+    for each in cases:
+        parts = re.match(r'(?:mean of (\S+)|one unit) (below|above) (\S+), (\w+).*, (not )?normal',
+                         each.name)
+        if not parts:
+            continue
+        mean, side, point, shape, negated = parts.groups()
+        amount, distance, count, points = one_window(each)
+        at = {'19.0': 190, '56.6': 566, '92.3': 923}[point] * count
+        right = multiplied_out(distance, count, points)
+        wrong = {'19.0': (points[0], 1), '92.3': (points[2], 1)}.get(
+            point, multiplied_out(distance, count, points, distance > at))
+        judged = [normal_multiplied_out(amount, distance, curve) for curve in (right, wrong)]
+        near = distance - at == {'below': -1, 'above': 1}[side]
+        rising = points[1] > points[0]
+        if (judged != [not negated, bool(negated)] or rising != (shape == 'peak')
+                or (distance < at) != (side == 'below')
+                or mean and Fraction(mean) != Fraction(distance, 10 * count)):
+            check(each.name, judged, [not negated, bool(negated)])
+        met.add((side + ' ' + point, shape, not negated, near, count > 1))
+    return met
+
+
+def told_edges():
+    met = told_names(co2.named_cases())
+    wanted = {(side, shape, normal, near, several) for side in co2.SIDES
+              for shape in ('peak', 'valley') for normal in (True, False)
+              for near in (True, False) for several in (True, False)
+              if near or '56.6' not in side}
+    check('means beside each point, judged otherwise by another curve', met, wanted)
+    check('and of 7,201 samples', len(told_names(co2.long_line_cases())), 8)
+    for each in co2.standing_cases():
+        amount, distance, count, points = one_window(each)
+        check(each.name, [normal_multiplied_out(amount, distance, multiplied_out(
+            distance, samples, points)) for samples in (count, 1)],
+            ['not' not in each.name, 'not' in each.name])
+
+
+def zero_edges():
+    """A curve of 0, and just beside it, on both lines; the g/km would be normal for its
+    magnitude, or for the lower end alone."""
+    met = {}
+    for each in co2.zero_cases():
+        parts = re.match('curve (.*0), (first|second) line', each.name)
+        amount, distance, count, points = one_window(each)
+        above, below = multiplied_out(distance, count, points)
+        sign = {'0': above == 0, 'above 0': 0 < above <= below,
+                'below 0': -below <= above < 0, 'far below 0': above < -500 * below,
+                'farthest below 0': above < -5000 * below}
+        if not sign[parts[1]] or (parts[2] == 'first') != (distance < 566 * count):
+            check(each.name, False, True)
+        magnitude = normal_multiplied_out(amount, distance, (abs(above), below))
+        normal = reference.co2_check(each.block, each.reference).normal
+        met.setdefault((parts[2], parts[1]), set()).add((magnitude, normal))
+    check('curves at 0, and normal by their magnitudes', met, {
+        (line, side): {(False, 0)} if side == '0' else
+        {(False, 0), (True, 1)} if side == 'above 0' else {(False, 0), (True, 0)}
+        for line in ('first', 'second') for side in ('below 0', '0', 'above 0')}
+        | {('first', 'far below 0'): {(True, 0)}, ('second', 'far below 0'): {(True, 0)},
+           ('second', 'farthest below 0'): {(False, 0)}})
+
+
+# --- CO2 windows: the refusals -----------------------------------------------
+
+def co2_faults(block, record):
+    """Every refusal that there is a reason for, in any order."""
+    numbers = [int.from_bytes(record[k:k + size], 'little')
+               for k, size in ((0, 4), (4, 2), (6, 2), (8, 2), (10, 6))]
+    well = (len(record) == 16 and numbers[0] > 0 and numbers[4] == 0
+            and all(0 < c < 1001 for c in numbers[1:4]))
+    values = [reference.decode_sample(block[k:k + 16]) for k in range(0, len(block) - 15, 16)]
+    bad = any(s.speed > 3000 or s.altitude < -500 or s.altitude > 5000 or s.temperature < 2000
+              or s.temperature > 3500 or s.flow > 20000 or s.nox > 5000 or s.co2 > 100000
+              for s in values)
+    return {number for number, there in (
+        (14, not well), (1, len(block) % 16 > 0), (5, len(block) >= 16 * 7202), (4, bad)) if there}
+
+
+def co2_refusals():
+    """"refused with 14, ahead of 1, 5, 4"; each pair of reasons meets."""
+    cases = (co2.reference_cases() + co2.field_cases() + co2.order_cases()
+             + co2.long_order_cases())
+    met = {}
+    for each in cases:
+        faults = co2_faults(each.block, each.reference)
+        answer = tuple(reference.co2_check(each.block, each.reference))
+        expected = next((number for number in (14, 1, 5, 4) if number in faults), 0)
+        if answer[0] != expected or (expected and answer[1:] != (0, 0, 0)):
+            check(each.name, answer, (expected, 0, 0, 0))
+        met.setdefault(frozenset(faults), []).append(each.name)
+        ahead = re.match(r'(\d+)(?: \(.*\))? ahead of ([\d and]+)', each.name)
+        if ahead:
+            said = {int(ahead[1])} | {int(n) for n in ahead[2].replace(' and', '').split()}
+            if faults != said or expected != int(ahead[1]):
+                check(each.name, (faults, expected), (said, int(ahead[1])))
+    check('each refusal alone, each pair, and none',
+          {pair for pair in met if len(pair) < 3},
+          {frozenset(pair) for pair in ((), (14,), (1,), (5,), (4,), (14, 1), (14, 5), (14, 4),
+                                        (1, 5), (1, 4), (5, 4))})
+    check('every way in which a reference is refused', len(co2.bad_references()), 28)
+    check('each of them is refused alone', {name for name in co2.bad_references()}
+          - {name[len('reference of '):] for name in met[frozenset((14,))]}, set())
+    beside = ('speed 3001', 'altitude -501', 'altitude 5001', 'temperature 1999',
+              'temperature 3501', 'flow 20001', 'nox 5001', 'co2 100001')
+    check('values just outside their range at each place',
+          {'%s, %s sample' % (value, place) for value in beside for place in co2.PLACES}
+          - set(met[frozenset((4,))]), set())
+    ends = sorted(name for name in met[frozenset()] if name.endswith('accepted'))
+    check('values at the ends of their ranges', ends, sorted(
+        '%s %d, accepted' % (field, value) for field, ends in reference.RANGES.items()
+        for value in ends))
+
+
+# --- CO2 windows: other reckonings of the same -------------------------------
+
+def windows_by_definition(samples, mass):
+    """Every start and every end: the sums of the first end at which M is reached."""
+    sums = []
+    for first in range(len(samples)):
+        ends = [end for end in range(first, len(samples))
+                if sum(s.co2 for s in samples[first:end + 1]) >= mass]
+        if ends:
+            part = samples[first:min(ends) + 1]
+            sums.append(CO2Window(sum(s.co2 for s in part), sum(s.speed for s in part), len(part)))
+    return sums
+
+
+def two_ways(seed, count):
+    """The rereading and the rolling windows, and those by the definition, are the same; the
+    verdicts are those of whole numbers multiplied out."""
+    rng = random.Random(seed)
+    differing = rolling = verdicts = 0
+    for _ in range(count):
+        most = rng.choice((0, 1, 3, 10))
+        samples = [Sample(k, rng.choice((0, 1, 190, 566, 567, 923, rng.randint(0, 3000))), 0, 2931,
+                          0, 0, rng.randint(0, most)) for k in range(rng.randint(0, 20))]
+        mass = rng.choice((1, 2, 3, 5, 10, 30))
+        windows = reference.complete_windows(samples, mass)
+        differing += windows != windows_by_definition(samples, mass)
+        rolling += windows != reference.complete_windows_fast(samples, mass)
+        points = co2.random_curve(rng)
+        decoded = reference.decode_co2_reference(co2.record_of(mass, points))
+        for window in windows:
+            amount = rng.choice((window.co2, co2.near_curve(rng, [window.speeds], points)))
+            window = window._replace(co2=amount)
+            verdicts += reference.window_normal(window, decoded) != normal_multiplied_out(
+                amount, window.speeds, multiplied_out(window.speeds, window.count, points))
+    check('complete windows by the definition, %d blocks' % count, differing, 0)
+    check('complete_windows_fast equals complete_windows on %d blocks' % count, rolling, 0)
+    check('verdicts on windows by whole numbers', verdicts, 0)
+    samples = co2.samples_of(co2.driven_co2(rng, drives.random_speeds(rng, 2000)))
+    check('complete_windows_fast equals complete_windows on a drive',
+          reference.complete_windows_fast(samples, 300000),
+          reference.complete_windows(samples, 300000))
+
+
+# --- CO2 windows: misreadings ------------------------------------------------
+
+class KeptWindow(CO2Window):
+    """The sums of a window that keeps its samples."""
+
+
+def kept_windows(samples, mass):
+    windows = [reference.co2_window(samples, first, mass) for first in range(len(samples))]
+    made = []
+    for window in windows:
+        if window is not None:
+            sums = KeptWindow(*reference.co2_sums(window))
+            sums.samples = window
+            made.append(sums)
+    return made
+
+
+def other_windows(change):
+    """Windows made anew from the samples of the right ones."""
+    return lambda samples, mass: [change(w.samples, mass) for w in kept_windows(samples, mass)]
+
+
+def without_last(field):
+    """The sums of the samples, one of them without the last sample."""
+    def change(samples, mass):
+        whole = reference.co2_sums(samples)
+        less = {'co2': whole.co2 - samples[-1].co2, 'speeds': whole.speeds - samples[-1].speed,
+                'count': max(1, whole.count - 1)}
+        return whole._replace(**(less if field == 'all' else {field: less[field]}))
+    return other_windows(change)
+
+
+def opened(where):
+    """Windows that open at some samples alone."""
+    return lambda samples, mass: [w for w in kept_windows(samples, mass) if where(w.samples[0])]
+
+
+def one_after_another(samples, mass):
+    windows, first = [], 0
+    while first < len(samples):
+        window = reference.co2_window(samples, first, mass)
+        if window is None:
+            break
+        windows.append(reference.co2_sums(window))
+        first += len(window)
+    return windows
+
+
+def one_at_a_sample(samples, mass):
+    """The rolling way, with one window complete at a sample at most."""
+    first, windows = 0, []
+    for end in range(len(samples)):
+        sums = reference.co2_sums(samples[first:end + 1])
+        if sums.co2 >= mass:
+            windows.append(sums)
+            first += 1
+    return windows
+
+
+def with_open_ones(samples, mass):
+    return [reference.co2_sums(reference.co2_window(samples, first, mass) or samples[first:])
+            for first in range(len(samples))]
+
+
+def mean_of(speeds):
+    return Fraction(sum(speeds), 10 * len(speeds)) if speeds else Fraction(0)
+
+
+def kept_mean(mean):
+    """The mean is another one of the window's samples."""
+    return {'complete_windows': kept_windows,
+            'window_mean_speed': lambda window: mean([s.speed for s in window.samples])}
+
+
+def lines(slow, middle, fast, turn=None):
+    """The curve with other points or another turn."""
+    def curve(record, mean):
+        if mean <= (middle if turn is None else turn):
+            return reference.line(slow, record.c1, middle, record.c2, mean)
+        return reference.line(middle, record.c2, fast, record.c3, mean)
+    return {'curve': curve}
+
+
+def at_points(slow=190, middle=566, fast=923, turn=None):
+    tenths = [Fraction(each, 10) for each in (slow, middle, fast)]
+    return lines(*tenths, None if turn is None else Fraction(turn, 10))
+
+
+def changed_mean(change):
+    """The curve is read at another mean."""
+    right = reference.curve
+    return {'curve': lambda record, mean: right(record, change(mean))}
+
+
+def judged(normal):
+    """Normal by g/km, a curve and whether there is a distance."""
+    def window_normal(window, record):
+        expected = reference.curve(record, reference.window_mean_speed(window))
+        if window.speeds == 0:
+            return normal(None, expected)
+        return normal(reference.window_emissions(window), expected)
+    return {'window_normal': window_normal}
+
+
+def moving(normal):
+    """The same, never without a distance or with a curve at or below 0."""
+    return judged(lambda emissions, expected: emissions is not None and expected > 0
+                  and normal(emissions, expected))
+
+
+def within(emissions, expected, least=Fraction(3, 4), most=Fraction(5, 4)):
+    return least * expected <= emissions <= most * expected
+
+
+def passed(rule):
+    return {'co2_passed': rule}
+
+
+MEAN_CUTS = {'19.0': Fraction(19), '92.3': Fraction(923, 10)}
+
+# Ways to read R-5 wrongly: {name: other functions of the reckoning}.
+CO2_MISREADINGS = {
+    'complete above M alone': {'complete_windows': lambda samples, mass: [
+        reference.co2_sums(w) for w in (reference.co2_window(samples, first, mass + 1)
+                                        for first in range(len(samples))) if w]},
+    'without the sample that completes': {'complete_windows': without_last('all')},
+    'without its CO2': {'complete_windows': without_last('co2')},
+    'without its distance': {'complete_windows': without_last('speeds')},
+    'without its second': {'complete_windows': without_last('count')},
+    'without its speed in the mean': kept_mean(lambda speeds: mean_of(speeds[:-1] or speeds)),
+    'M for its own CO2': {'complete_windows': other_windows(
+        lambda samples, mass: reference.co2_sums(samples)._replace(co2=mass))},
+    'one after another': {'complete_windows': one_after_another},
+    'one at a sample': {'complete_windows': one_at_a_sample},
+    'those still open too': {'complete_windows': with_open_ones},
+    'opened where there is CO2': {'complete_windows': opened(lambda s: s.co2 > 0)},
+    'opened where the car moves': {'complete_windows': opened(lambda s: s.speed > 0)},
+    'complete with a distance alone': {'complete_windows': lambda samples, mass: [
+        w for w in kept_windows(samples, mass) if w.speeds]},
+    'mean of moving samples': kept_mean(lambda speeds: mean_of([v for v in speeds if v])),
+    'mean of stops apart': kept_mean(lambda speeds: mean_of([v for v in speeds if v >= 10])),
+    'mean of both ends': kept_mean(lambda speeds: mean_of([speeds[0], speeds[-1]])),
+    'mean in whole tenths': changed_mean(lambda mean: Fraction(10 * mean // 1, 10)),
+    'mean in whole km/h': changed_mean(lambda mean: Fraction(mean // 1)),
+    'level below 19.0': changed_mean(lambda mean: max(mean, MEAN_CUTS['19.0'])),
+    'level above 92.3': changed_mean(lambda mean: min(mean, MEAN_CUTS['92.3'])),
+    'the first line alone': at_points(turn=10 ** 6),
+    'the second line alone': at_points(turn=-1),
+    'turn at 56.5': at_points(turn=565), 'turn at 56.7': at_points(turn=567),
+    'turn at 19.0': at_points(turn=190), 'turn at 92.3': at_points(turn=923),
+    '19.1 for 19.0': at_points(slow=191), '18.9 for 19.0': at_points(slow=189),
+    '56.5 for 56.6': at_points(middle=565), '56.7 for 56.6': at_points(middle=567),
+    '92.2 for 92.3': at_points(fast=922), '92.4 for 92.3': at_points(fast=924),
+    'curve in whole g/km': moving(lambda e, k: within(e, Fraction(k // 1))),
+    'g/km rounded down': moving(lambda e, k: within(Fraction(e // 1), k)),
+    'g/km to the nearest': moving(lambda e, k: within(Fraction(round(e)), k)),
+    'ends excluded': moving(lambda e, k: abs(e - k) < k / 4),
+    'lower end excluded': moving(lambda e, k: 3 * k < 4 * e <= 5 * k),
+    'upper end excluded': moving(lambda e, k: 3 * k <= 4 * e < 5 * k),
+    'a quarter of the g/km': moving(lambda e, k: abs(e - k) <= e / 4),
+    'the lower end alone': moving(lambda e, k: 4 * e >= 3 * k),
+    'the upper end alone': moving(lambda e, k: 4 * e <= 5 * k),
+    'the lower end alone, any curve': judged(lambda e, k: e is not None and 4 * e >= 3 * k),
+    'by the magnitude of the curve': judged(lambda e, k: e is not None and within(e, abs(k))),
+    'a curve at or below 0 as 1': judged(lambda e, k: e is not None
+                                         and within(e, k if k > 0 else Fraction(1))),
+    'normal with no distance': judged(lambda e, k: e is None or k > 0 and within(e, k)),
+    'no distance as g/km of the curve': judged(lambda e, k: k > 0 and (e is None or within(e, k))),
+    'a pass for more than half': passed(lambda complete, normal: 2 * normal > complete),
+    'a pass with none complete': passed(lambda complete, normal: 2 * normal >= complete),
+    'a pass by the half rounded down': passed(
+        lambda complete, normal: complete > 0 and normal >= complete // 2),
+    'a pass for some normal': passed(lambda complete, normal: normal > 0),
+    'a pass for all normal': passed(lambda complete, normal: 0 < complete == normal),
+}
+
+
+def misread(changes, work):
+    """What the work gives with other functions of the reckoning."""
+    kept = {name: getattr(reference, name) for name in changes}
+    try:
+        for name, function in changes.items():
+            setattr(reference, name, function)
+        return work()
+    finally:
+        for name, function in kept.items():
+            setattr(reference, name, function)
+
+
+def tells_co2(name, cases):
+    """Each misreading changes the answer to some of the cases."""
+    def answers():
+        return [reference.co2_check(each.block, each.reference) for each in cases]
+
+    right = answers()
+    check('%s tell each misreading of the CO2 windows' % name,
+          [wrong for wrong, changes in CO2_MISREADINGS.items()
+           if misread(changes, answers) == right], [])
+
+
+def last_sample_names():
+    """The last sample decides, by the part of it that is said."""
+    readings = {'by the last sample': 'without the sample that completes',
+                'CO2 of the last sample': 'without its CO2',
+                'distance of the last sample': 'without its distance',
+                'the mean with the last sample': 'without its speed in the mean'}
+    for part, reading in readings.items():
+        cases = [each for each in co2.last_sample_cases() if part in each.name]
+        answers = [misread(changes, lambda: [
+            reference.co2_check(each.block, each.reference).normal for each in cases])
+            for changes in ({}, CO2_MISREADINGS[reading])]
+        stated = [int(not each.name.startswith('not')) for each in cases]
+        check('the last sample decides: ' + part, (answers, sorted(set(stated))),
+              ([stated, [1 - normal for normal in stated]], [0, 1]))
+
+
+# --- CO2 windows: what the cases reach ---------------------------------------
+
+# Refusal, complete, normal, pass.
+LONG_ANSWERS = {
+    '7201 at most, M 720100001': (0, 0, 0, 0), '7201 at most, M 4294967295': (0, 0, 0, 0),
+    '7201 at most, M 720099999': (0, 1, 1, 1), '7201 at most, M 100000': (0, 7201, 7201, 1),
+    '7201 at most, M 100001': (0, 7200, 7200, 1), '7201 at most, M 1': (0, 7201, 7201, 1),
+    '7201 at most, M 360000000': (0, 3602, 3602, 1), '7201 of 1 mg, M 7201': (0, 1, 0, 0),
+    '7201 at a standstill, all one window': (0, 1, 0, 0),
+    # 1000 / k g/km, k from 1 to 7201: normal from 8 to 13
+    '7200 without CO2, then enough': (0, 7201, 6, 0),
+    '3600 of 7201 normal': (0, 7201, 3600, 0), '3601 of 7201 normal': (0, 7201, 3601, 1),
+    '3599 of 7200 normal': (0, 7200, 3599, 0), '3600 of 7200 normal': (0, 7200, 3600, 1)}
+
+
+def co2_long():
+    """Long blocks: of one window, and of as many windows as samples; drives."""
+    answers = {each.name: tuple(reference.co2_check(each.block, each.reference))
+               for each in co2.longest_cases()}
+    for name, answer in LONG_ANSWERS.items():
+        check(name, answers[name], answer)
+    # 1200 g/km; a curve of 1000 at 300.0 km/h is normal, and all others are far from it
+    for points in co2.ENDS:
+        normal = int(points[1:] == (1000, 1000))
+        ending = 'curve of %d, %d, %d' % points
+        check('7201 at most, ' + ending, answers['7201 at most, all one window, ' + ending],
+              (0, 1, normal, normal))
+    driven = [reference.co2_check(each.block, each.reference) for each in co2.driven_cases()[2:4]]
+    check('about half of the windows of a drive are normal, it passes and does not',
+          [(0.45 < answer.normal / answer.complete < 0.55, answer.complete > 6900, answer.passed)
+           for answer in driven], [(True, True, 1), (True, True, 0)])
+
+
+def at_ends(each):
+    """Of an accepted case: which ends of their range its windows' g/km are exactly at, and at
+    which points their means are, or one unit beside."""
+    record = reference.decode_co2_reference(each.reference)
+    points = record.c1, record.c2, record.c3
+    met = set()
+    for window in reference.co2_windows(reference.samples_of_block(each.block), record.mass):
+        above, below = multiplied_out(window.speeds, window.count, points)
+        for times in (3, 5):
+            if window.speeds and 144 * window.co2 * below == times * above * window.speeds:
+                met.add('%d quarters' % times)
+        for point in (190, 566, 923):
+            off = window.speeds - point * window.count
+            if abs(off) <= 1:
+                met.add('%d %+d' % (point, off))
+        if above <= 0:
+            met.add('no curve')
+        if window.speeds == 0:
+            met.add('no distance')
+    return met
+
+
+def co2_random():
+    """What the random cases reach."""
+    rng = random.Random(1)
+    cases = [co2.random_case(rng) for _ in range(1000)]
+    answers = [reference.co2_check(each.block, each.reference) for each in cases]
+    accepted = [(each, answer) for each, answer in zip(cases, answers) if answer.refusal == 0]
+    check('random cases reach each refusal', {a.refusal for a in answers}, {0, 1, 4, 14})
+    check('most are accepted', 0.75 < len(accepted) / len(cases) < 0.95, True)
+    for name, share in (('complete', lambda a: a.complete > 0), ('a pass', lambda a: a.passed),
+                        ('no pass of some', lambda a: a.complete and not a.passed),
+                        ('mixed', lambda a: 0 < a.normal < a.complete)):
+        check('random cases, ' + name, sum(1 for _, a in accepted if share(a))
+              > len(accepted) / 8, True)
+    check('random cases on either side of a half',
+          {2 * a.normal - a.complete for _, a in accepted if a.complete} >= set(range(-3, 4)), True)
+    met = [at_ends(each) for each, _ in accepted if len(each.block) <= 16 * 40]
+    wanted = ['3 quarters', '5 quarters', 'no curve', 'no distance']
+    wanted += ['%d %+d' % (point, off) for point in (190, 566, 923) for off in (-1, 0, 1)]
+    check('random cases at ends and points, four of each at least',
+          [each for each in wanted if sum(1 for m in met if each in m) < 4], [])
+    check('random cases have several faults', {len(co2_faults(each.block, each.reference))
+                                               for each in cases} >= {0, 1, 2}, True)
+    tells_co2('random cases', [each for each, _ in accepted if len(each.block) <= 16 * 8])
+    again = [co2.random_case(rng) for rng in [random.Random(1)] for _ in range(50)]
+    check('the same seed gives the same cases', again, cases[:50])
+    line = co2.case_line(co2.Case('', b'', co2.GOOD))
+    check('a line of text', line, 'co2 - e8030000640064006400000000000000 -> 0 0 0 0\n')
+
+
+def co2_cases():
+    window_sentences()
+    curve_sentences()
+    normal_sentences()
+    pass_sentences()
+    co2_named_answers()
+    quarter_edges()
+    told_edges()
+    zero_edges()
+    last_sample_names()
+    co2_refusals()
+    two_ways(1, 1000)
+    tells_co2('named cases', co2.named_cases())
+    co2_long()
+    co2_random()
+
+
 # --- The examples of the refusal table ---------------------------------------
 
 def refusal_examples():
@@ -806,6 +1529,7 @@ def main():
     average_cases()
     rounding()
     average_lists()
+    co2_cases()
     refusal_examples()
     recount(1, 300)
     definitions(1, 500)

@@ -1,16 +1,18 @@
 /* A longer run, outside the gate: lists of calls by chance through the library and through bench/plain.c, every answer compared,
  * and every fourth time a list that goes on after bytes of the area were changed (only what lent.h checks is then asked, and that
- * clear makes the area fresh).
+ * clear makes the area fresh). After each list the CO2 windows of a block, by both.
  *     soak COUNT [SEED]
- * COUNT is the number of lists; the same seed gives the same ones. Figures at the end; the last line is 'N passed, M failed'. */
+ * COUNT is the number of lists; the same seed gives the same ones. Figures at the end; the last line is 'N passed, M failed', one for
+ * each list and one for each block. */
 #include "../../bench/plain.h"
-#include "../host/chance.h"
 #include "../host/lent.h"
+#include "blocks.h"
 
 #define SHOWN 10
 
 static struct {
     long calls, other_lengths, refusals[KINDS][256], damaged, damaged_calls, damaged_refusals[256], full, sampled;
+    long blocks, records, co2_refusals[256], shared, complete, normal, with_complete, with_normal, passed;
 } figures;
 
 typedef struct {
@@ -159,6 +161,69 @@ static void run_list(pair *s, long list)
         printf("list %ld, call %ld: %s\n", list, s->calls, s->wrong[0] != 0 ? s->wrong : s->lent.wrong);
 }
 
+/* --- CO2 windows --- */
+
+typedef struct {
+    guarded block, reference;
+    co2_case given;
+    rde_co2_answer core, plain;
+} windows;
+
+static void count_windows(const windows *w)
+{
+    figures.blocks++;
+    figures.records += (long)(w->given.block_len / RDE_RECORD_LEN);
+    figures.co2_refusals[w->core.refusal & 255]++;
+    figures.shared += w->given.shares;
+    figures.complete += w->core.complete;
+    figures.normal += w->core.normal;
+    figures.with_complete += w->core.complete != 0;
+    figures.with_normal += w->core.normal != 0;
+    figures.passed += w->core.pass == 1;
+}
+
+/* The answers to the block and the reference record lent against unreadable pages, by both; what changes a byte, or NULL. */
+static const char *ask_windows(windows *w, int low)
+{
+    const co2_case *c = &w->given;
+    size_t more = c->shares ? c->reference_len - SHARED : 0;
+    uint8_t *block = guarded_place(w->block, c->block_len + more, low);
+    uint8_t *reference = c->shares ? block + c->block_len - SHARED : guarded_place(w->reference, c->reference_len, low);
+    memcpy(block, c->block, c->block_len);
+    memcpy(reference, c->reference, c->reference_len);
+    w->core = rde_co2(block, c->block_len, reference, c->reference_len);
+    w->plain = plain_co2(c->block, c->block_len, c->reference, c->reference_len);
+    if (memcmp(block, c->block, c->block_len) != 0)
+        return "the block is changed";
+    return memcmp(reference, c->reference, c->reference_len) != 0 ? "the reference record is changed" : NULL;
+}
+
+static int same_windows(const windows *w)
+{
+    return w->core.refusal == w->plain.refusal && w->core.complete == w->plain.complete && w->core.normal == w->plain.normal &&
+           w->core.pass == w->plain.pass;
+}
+
+static void run_block(windows *w, long number)
+{
+    const char *wrong;
+    must_end();
+    snprintf(run.place, sizeof run.place, "block %ld", number);
+    draw_co2_case(&w->given);
+    wrong = ask_windows(w, number % 2);
+    count_windows(w);
+    if (wrong == NULL && same_windows(w)) {
+        run.passed++;
+        return;
+    }
+    if (run.failed++ < SHOWN)
+        printf("block %ld: %s: refusal %u and %u, complete %u and %u, normal %u and %u, pass %u and %u\n", number,
+               wrong != NULL ? wrong : "differs", w->core.refusal, w->plain.refusal, w->core.complete, w->plain.complete,
+               w->core.normal, w->plain.normal, w->core.pass, w->plain.pass);
+}
+
+/* --- Figures --- */
+
 static void print_refusals(const long *counts)
 {
     for (int k = 1; k < 256; k++)
@@ -177,18 +242,28 @@ static void print_figures(long lists)
     }
     printf("damaged areas %ld, calls on them %ld, accepted %ld", figures.damaged, figures.damaged_calls, figures.damaged_refusals[0]);
     print_refusals(figures.damaged_refusals);
+    printf("blocks %ld, records %ld, sharing bytes with the reference %ld\n", figures.blocks, figures.records, figures.shared);
+    printf("co2      accepted %ld", figures.co2_refusals[0]);
+    print_refusals(figures.co2_refusals);
+    printf("windows complete %ld, normal %ld; blocks with complete ones %ld, with normal ones %ld, passed %ld\n", figures.complete,
+           figures.normal, figures.with_complete, figures.with_normal, figures.passed);
     printf("faults 0\n"); /* a fault ends the run before */
 }
 
 int main(int argc, char **argv)
 {
     static pair s;
+    static windows w;
     long lists = argc > 1 ? strtol(argv[1], NULL, 10) : 4000;
     s.lent = lent_new();
+    w.block = guarded_new(sizeof w.given.block + sizeof w.given.reference);
+    w.reference = guarded_new(sizeof w.given.reference);
     chance_state = argc > 2 ? strtoull(argv[2], NULL, 10) : 1;
     catch_faults();
-    for (long k = 0; k < lists; k++)
+    for (long k = 0; k < lists; k++) {
         run_list(&s, k);
+        run_block(&w, k);
+    }
     print_figures(lists);
     return finish();
 }

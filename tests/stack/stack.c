@@ -16,7 +16,8 @@ static ucontext_t caller, callee;
 static uintptr_t pointer; /* the stack pointer where the call is made */
 
 static uint8_t area[RDE_AREA_LEN], record[RDE_RECORD_LEN], block[100 * RDE_RECORD_LEN], tally[RDE_TALLY_LEN], other[RDE_TALLY_LEN];
-static size_t area_len, record_len, block_len;
+static uint8_t samples[(RDE_MAX_SAMPLES + 1) * RDE_RECORD_LEN], reference[RDE_RECORD_LEN];
+static size_t area_len, record_len, block_len, reference_len;
 static uint32_t window;
 static volatile uint64_t sink;
 
@@ -40,14 +41,16 @@ JOB(do_read, rde_read(area, area_len, window))
 JOB(do_verdict, rde_verdict(area, area_len))
 JOB(do_tally, rde_tally(block, block_len, tally, sizeof tally))
 JOB(do_join, rde_join(tally, sizeof tally, tally, sizeof tally, other, sizeof other))
+JOB(do_co2, rde_co2(samples, block_len, reference, reference_len))
 
-enum { AREA_LEN, CLEAR, DECLARE, SAMPLE, CLOSE, READ, VERDICT, TALLY, JOIN, CALLS };
+enum { AREA_LEN, CLEAR, DECLARE, SAMPLE, CLOSE, READ, VERDICT, TALLY, JOIN, CO2, CALLS };
 static const struct {
     const char *name;
     void (*job)(void);
 } calls[CALLS] = {{"rde_area_len", do_area_len}, {"rde_clear", do_clear}, {"rde_declare", do_declare},
                   {"rde_sample", do_sample},     {"rde_close", do_close}, {"rde_read", do_read},
-                  {"rde_verdict", do_verdict},   {"rde_tally", do_tally}, {"rde_join", do_join}};
+                  {"rde_verdict", do_verdict},   {"rde_tally", do_tally}, {"rde_join", do_join},
+                  {"rde_co2", do_co2}};
 static size_t deepest[CALLS];
 
 /* Makes a call on the painted stack. */
@@ -146,6 +149,62 @@ static void blocks(void)
     make(JOIN); /* ill-formed */
 }
 
+static void set_reference(uint32_t mass, uint32_t c1, uint32_t c2, uint32_t c3)
+{
+    put(reference, mass, 4);
+    put(reference + 4, c1, 2);
+    put(reference + 6, c2, 2);
+    put(reference + 8, c3, 2);
+}
+
+/* More samples than a block may have, partly slow or at a standstill, most of them at 900 g/km. */
+static void set_samples(void)
+{
+    for (uint32_t i = 0; i <= RDE_MAX_SAMPLES; i++) {
+        uint8_t *r = samples + RDE_RECORD_LEN * i;
+        set_sample(r, i);
+        if (i % 50 < 20)
+            put(r + 2, i % 5 * 100, 2);
+        if (i % 4 != 0)
+            put(r + 12, 25 * (r[2] + 256u * r[3]), 4);
+    }
+}
+
+/* Windows of one sample, of some and of most, and none complete; curves that make few, some or most of them normal, or fall below 0. */
+static void windows(void)
+{
+    static const uint32_t masses[] = {1, 60000, 300000, 60000000, UINT32_MAX};
+    static const size_t lens[] = {0, RDE_RECORD_LEN, 40 * RDE_RECORD_LEN, RDE_MAX_SAMPLES * RDE_RECORD_LEN};
+    set_samples();
+    reference_len = sizeof reference;
+    for (uint32_t k = 0; k < 5 * 4 * 8; k++) {
+        set_reference(masses[k % 5], k / 20 & 1 ? 1000 : 1, k / 20 & 2 ? 1000 : 1, k / 20 & 4 ? 1000 : 1);
+        block_len = lens[k / 5 % 4];
+        make(CO2);
+    }
+}
+
+static void refused_windows(void)
+{
+    block_len = sizeof samples;
+    make(CO2); /* a sample too many */
+    block_len--;
+    make(CO2); /* no whole records */
+    block_len = RDE_MAX_SAMPLES * RDE_RECORD_LEN;
+    put(samples + block_len - 4, 100001, 4);
+    make(CO2); /* the last sample out of range */
+    reference_len--;
+    make(CO2); /* a reference record of another length */
+    reference_len++;
+    set_reference(0, 1, 1, 1);
+    make(CO2); /* an M of 0 */
+    set_reference(1, 1, 1, 1001);
+    make(CO2); /* a c3 out of range */
+    set_reference(1, 1, 1, 1);
+    reference[RDE_RECORD_LEN - 1] = 1;
+    make(CO2); /* a last byte that is not 0 */
+}
+
 int main(void)
 {
     drive(0, 200);
@@ -154,6 +213,8 @@ int main(void)
     for (int call = DECLARE; call < TALLY; call++)
         make(call);
     blocks();
+    windows();
+    refused_windows();
     for (int call = 0; call < CALLS; call++)
         printf("%s %zu\n", calls[call].name, deepest[call]);
     return 0;

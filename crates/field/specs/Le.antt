@@ -1,7 +1,7 @@
 -- Little-endian fields of a list of bytes, each law once over the width n in bytes. `le_at n xs a`, the number in the n bytes of xs from a, is the
 -- model's; `put_le n xs a v` is xs with the n lowest bytes of v from a. Assumes nothing.
 use Rattle.std.specs.Prelude.{◌≡◌, refl, List, ℕ, zero, suc, ◌+◌, ◌*◌, ◌/◌, ◌^◌, ◌≤◌, ◌<◌, length, get_or}
-use Rattle.std.proofs.Common.{ap, ◌∙◌, pow-suc, arith, drop-cons}
+use Rattle.std.proofs.Common.{ap, ◌∙◌, add-zero, zero-add, suc-add, pow-suc, arith, drop-cons}
 use Rattle.model.specs.Numbers.{le_val, le_bytes, le_at}
 use Rattle.field.specs.Part.{part, put, put_length, part_same, part_other, part_part, Apart}
 
@@ -72,3 +72,11 @@ le_suc n xs a h = rw (drop-cons xs a 0)
 -- a field of one byte is the byte
 pub le_one : (xs : List ℕ) (a : ℕ) → a < length xs → le_at 1 xs a ≡ get_or xs a 0
 le_one xs a h = le_suc 0 xs a h ∙ rw (le_zero xs (suc a)) (omega arith)
+
+-- a field as two, one behind the other
+pub le_join : (m n : ℕ) (xs : List ℕ) (a : ℕ) → a + m ≤ length xs → le_at (m + n) xs a ≡ le_at m xs a + 256 ^ m * le_at n xs (a + m)
+le_join zero n xs a h = rw (zero-add, add-zero, le_zero xs a) (omega arith)
+le_join (suc m) n xs a h =
+    let next : suc a + m ≡ a + suc m = omega arith in
+    let rest : le_at (m + n) xs (suc a) ≡ le_at m xs (suc a) + 256 ^ m * le_at n xs (a + suc m) = rw next at (le_join m n xs (suc a) (omega arith)) in
+    rw (suc-add, le_suc (m + n) xs a (omega arith), le_suc m xs a (omega arith), rest, pow-suc) (omega arith)

@@ -5,9 +5,10 @@ pub mod Windows
 pub mod Rules
 pub mod Verdicts
 pub mod Tallies
+pub mod Co2Windows
 pub mod Refusals
 pub mod Trip
-pub mod Answers
 pub mod Blocks
+pub mod Answers
 pub mod Report
 pub mod Cases

@@ -10,7 +10,7 @@ mod per_class;
 
 pub use per_class::PerClass;
 
-// Bytes of a sample record and of a window record.
+// Bytes of a sample record, of a window record and of a reference record.
 pub const RECORD_LEN: usize = 16;
 
 // Bytes of a tally.
@@ -115,6 +115,25 @@ pub struct Tally {
     pub extended: i64,
 }
 
+// What the CO2 windows of a drive are judged by.
+#[derive(Clone, Copy)]
+pub struct Reference {
+    // The CO2 that completes a window, in mg.
+    pub mass: u32,
+    // The CO2 characteristic curve at mean speeds of 19.0, 56.6 and 92.3 km/h, in g/km.
+    pub c1: u16,
+    pub c2: u16,
+    pub c3: u16,
+}
+
+// What the check of CO2 windows answers: how many are complete, how many of these are normal, and whether the drive is plausible.
+#[derive(Clone, Copy)]
+pub struct Co2Check {
+    pub complete: u32,
+    pub normal: u32,
+    pub pass: bool,
+}
+
 // What a verdict says first. Document 01 calls it the word.
 #[derive(Clone, Copy, Debug, PartialEq, Eq)]
 pub enum Finding {
@@ -152,11 +171,13 @@ pub enum Refusal {
     WrongLength,
     TallyIllFormed,
     TooManyJoined,
+    // The reference record of CO2 windows is ill-formed, or not 16 bytes long.
+    ReferenceIllFormed,
     // The area is found to stand for no trip; document 01 leaves the number free.
     AreaDamaged,
 }
 
-// The number of a refusal, of document 01's table.
+// The number of a refusal, of document 01's table and of R-5.
 impl From<Refusal> for u32 {
     ghost from_gives = { λ refusal n. n ≡ refusal_number refusal };
 
@@ -175,6 +196,7 @@ impl From<Refusal> for u32 {
             Refusal::WrongLength => 11,
             Refusal::TallyIllFormed => 12,
             Refusal::TooManyJoined => 13,
+            Refusal::ReferenceIllFormed => 14,
             Refusal::AreaDamaged => 255,
         }
     }

@@ -6,7 +6,7 @@ use Prim.Native.Nat.{ℕ, ◌<◌}
 use lib.Dec.{lit<}
 use Rattle.std.specs.Prelude.{ℤ, Result, Ok, Err}
 use Rattle.model.specs.declared.Refusal.{Refusal}
-use Rattle.model.specs.declared.Refusal.TheVariants.{RecordLength, TripClosed, SecondOutOfTurn, ValueOutOfRange, TooManySamples, WindowLayout, WindowAfterSample, TooManyWindows, NoSuchWindow, NoneQualifies, WrongLength, TallyIllFormed, TooManyJoined, AreaDamaged}
+use Rattle.model.specs.declared.Refusal.TheVariants.{RecordLength, TripClosed, SecondOutOfTurn, ValueOutOfRange, TooManySamples, WindowLayout, WindowAfterSample, TooManyWindows, NoSuchWindow, NoneQualifies, WrongLength, TallyIllFormed, TooManyJoined, ReferenceIllFormed, AreaDamaged}
 use Rattle.model.specs.declared.Verdict.{Verdict}
 use Rattle.model.specs.Answers.{answer_of, verdict_answer_of, refusal_number}
 use Rattle.model.specs.Blocks.{Written}
@@ -33,6 +33,7 @@ positive NoneQualifies = lit< tt
 positive WrongLength = lit< tt
 positive TallyIllFormed = lit< tt
 positive TooManyJoined = lit< tt
+positive ReferenceIllFormed = lit< tt
 positive AreaDamaged = lit< tt
 
 numbered : {A : Type 0} (a : Result A Refusal) → Numbered a

@@ -3,13 +3,14 @@ use Rattle.std.specs.Prelude.{List, ◌≡◌, ℕ, ◌<◌, ℤ, pos, Result, O
 use Rattle.model.specs.declared.Refusal.{Refusal}
 use Rattle.model.specs.declared.Verdict.{Verdict}
 use Rattle.model.specs.Answers.{answer_of, verdict_answer_of, refusal_number, finding_code}
-use Rattle.model.specs.Blocks.{Written}
+use Rattle.model.specs.Blocks.{Written, Checked, unchecked, checked}
 use Rattle.model.specs.Numbers.{bit}
 use Rattle.model.specs.Trip as model
 use Rattle.steps.specs.Step.{Step}
 use Rattle.tally_calls.specs.Calls.{Wrote}
 use Rattle.monitor.specs.declared.RdeAnswer.{RdeAnswer}
 use Rattle.monitor.specs.declared.RdeVerdictAnswer.{RdeVerdictAnswer}
+use Rattle.monitor.specs.declared.RdeCo2Answer.{RdeCo2Answer}
 
 -- the C struct of an answer, and of the verdict's
 abbrev pub reply_of : Result ℤ Refusal → RdeAnswer
@@ -22,6 +23,11 @@ judged_reply_of v = record { refusal = 0; broken = v.broken; exceeded = bit v.ex
 abbrev pub verdict_reply_of : Result Verdict Refusal → RdeVerdictAnswer
 verdict_reply_of (Ok v) = judged_reply_of v
 verdict_reply_of (Err r) = record { refusal = refusal_number r; broken = 0; exceeded = 0; word = 0 }
+
+-- and of the check of CO2 windows
+abbrev pub co2_reply_of : Checked → RdeCo2Answer
+co2_reply_of (checked c) = record { refusal = 0; complete = c.complete; normal = c.normal; pass = bit c.pass }
+co2_reply_of (unchecked k) = record { refusal = k; complete = 0; normal = 0; pass = 0 }
 
 -- a refusal's number is not 0, so that the struct tells which answer it is
 abbrev pub Numbered : {A : Type 0} → Result A Refusal → Type 0

@@ -2,15 +2,16 @@
 #![tactic(auto)]
 
 ghost use Rattle.std.specs.Prelude.{◌≡◌, length};
-ghost use Rattle.model.specs.Blocks.{tallied, joined};
+ghost use Rattle.model.specs.Answers.{checked_of};
+ghost use Rattle.model.specs.Blocks.{tallied, joined, co2_checked};
 ghost use Rattle.model.specs.Trip as model;
 ghost use Rattle.area.specs.Layout.{area_len};
-ghost use Rattle.monitor.specs.Reply.{reply_of, verdict_reply_of, Told, Writes};
+ghost use Rattle.monitor.specs.Reply.{reply_of, verdict_reply_of, co2_reply_of, Told, Writes};
 ghost use Rattle.monitor.specs.Exported.{plain, judgement, Exported};
 
-use model::{Refusal, Verdict};
+use model::{Co2Check, Refusal, Verdict};
 
-// An answer: refusal 0 is accepted, with the value; any other refusal has value 0. C has no `Result`, so this and the next are structs of numbers.
+// An answer: refusal 0 is accepted, with the value; any other refusal has value 0. C has no `Result`, so this and the next two are structs of numbers.
 #[repr(C)]
 #[derive(Clone, Copy)]
 pub struct RdeAnswer {
@@ -26,6 +27,16 @@ pub struct RdeVerdictAnswer {
     pub broken: u32,
     pub exceeded: u32,
     pub word: u32,
+}
+
+// The answer of the check of CO2 windows.
+#[repr(C)]
+#[derive(Clone, Copy)]
+pub struct RdeCo2Answer {
+    pub refusal: u32,
+    pub complete: u32,
+    pub normal: u32,
+    pub pass: u32,
 }
 
 impl From<Result<i64, Refusal>> for RdeAnswer {
@@ -58,6 +69,27 @@ impl From<Result<Verdict, Refusal>> for RdeVerdictAnswer {
                 broken: 0,
                 exceeded: 0,
                 word: 0,
+            },
+        }
+    }
+}
+
+impl From<Result<Co2Check, Refusal>> for RdeCo2Answer {
+    ghost from_gives = { λ answer reply. reply ≡ co2_reply_of (checked_of answer) };
+
+    fn from(answer: Result<Co2Check, Refusal>) -> RdeCo2Answer {
+        match answer {
+            Ok(check) => RdeCo2Answer {
+                refusal: 0,
+                complete: check.complete,
+                normal: check.normal,
+                pass: model::bit(check.pass),
+            },
+            Err(refusal) => RdeCo2Answer {
+                refusal: u32::from(refusal),
+                complete: 0,
+                normal: 0,
+                pass: 0,
             },
         }
     }
@@ -124,4 +156,11 @@ pub fn rde_join(a: &[u8], b: &[u8], out: &mut [u8]) -> RdeAnswer
     ensures { Told (Writes (joined a.now b.now (length out.old)) out.old out.new) result }
 {
     RdeAnswer::from(tally_calls::join_tallies(a, b, out))
+}
+
+// The CO2 windows of a block of sample records by a reference record.
+pub fn rde_co2(block: &[u8], reference: &[u8]) -> RdeCo2Answer
+    ensures { result ≡ co2_reply_of (co2_checked block.now reference.now) }
+{
+    RdeCo2Answer::from(co2_windows::check(block, reference))
 }

@@ -3,13 +3,13 @@
 #![tactic(auto)]
 
 ghost use Rattle.std.specs.Prelude.{◌≡◌, length};
-ghost use Rattle.model.specs.Blocks.{tallied, joined};
+ghost use Rattle.model.specs.Blocks.{tallied, joined, co2_checked};
 ghost use Rattle.model.specs.Trip as model;
 ghost use Rattle.area.specs.Layout.{area_len};
-ghost use Rattle.monitor.specs.Reply.{Told, Writes};
+ghost use Rattle.monitor.specs.Reply.{co2_reply_of, Told, Writes};
 ghost use Rattle.monitor.specs.Exported.{plain, judgement, Exported};
 
-use monitor::{RdeAnswer, RdeVerdictAnswer};
+use monitor::{RdeAnswer, RdeCo2Answer, RdeVerdictAnswer};
 
 // The length of the state area.
 #[unsafe(no_mangle)]
@@ -81,4 +81,12 @@ pub extern "C" fn rde_join(a: &[u8], b: &[u8], out: &mut [u8]) -> RdeAnswer
     ensures { Told (Writes (joined a.now b.now (length out.old)) out.old out.new) result }
 {
     monitor::rde_join(a, b, out)
+}
+
+// The CO2 windows of a block of sample records by a reference record.
+#[unsafe(no_mangle)]
+pub extern "C" fn rde_co2(block: &[u8], reference: &[u8]) -> RdeCo2Answer
+    ensures { result ≡ co2_reply_of (co2_checked block.now reference.now) }
+{
+    monitor::rde_co2(block, reference)
 }

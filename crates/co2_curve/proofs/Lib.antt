@@ -1,0 +1,2 @@
+mod Record
+mod Tests

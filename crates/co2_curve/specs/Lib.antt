@@ -1,0 +1,5 @@
+pub mod Read
+pub mod Bounds
+pub mod Lines
+pub mod Sound
+pub mod Points

@@ -1,8 +1,7 @@
 -- The code's fraction is the curve, and its tests of a window are those of the definition. Assumes nothing.
-use Rattle.std.specs.Prelude.{◌≡◌, refl, Bool, true, false, cond, ◌&&◌, ℕ, zero, suc, ◌+◌, ◌-◌, ◌*◌, ◌≤◌, ◌<◌, leb, pos, negsuc, neg_ℤ, ◌-ℤ◌, ◌*ℤ◌}
-use Rattle.std.proofs.Common.{sym, mul-le-mul, mul-add, arith}
+use Rattle.std.specs.Prelude.{◌≡◌, refl, Bool, true, false, cond, ◌&&◌, ℕ, ◌+◌, ◌-◌, ◌*◌, ◌≤◌, ◌<◌, leb, pos, ◌-ℤ◌}
+use Rattle.std.proofs.Common.{mul-le-mul, arith}
 use Rattle.std.proofs.lemmas.Int.{ints}
-use Rattle.std.proofs.Math.Decide.{dec_le}
 use Rattle.std.proofs.Math.Bool.{and-true, and-false}
 use Rattle.std.specs.Int.Signed.{lt_z}
 use borrow.Author.Tests.{le-leb, lt-leb, lt-ltb}
@@ -10,6 +9,7 @@ use Rattle.model.specs.declared.Reference.{Reference}
 use Rattle.model.specs.Numbers.{all, withinℤ}
 use Rattle.model.specs.Records.{units}
 use Rattle.model.specs.Co2Windows.{v1, v2, v3, line, up_to_v2, curve_numerator, curve_denominator, normal_by}
+use Rattle.laws.specs.Signed.{times_minus}
 use Rattle.co2_curve.specs.declared.Sums.{Sums}
 use Rattle.co2_curve.specs.declared.CurveAt.{CurveAt}
 use Rattle.co2_curve.specs.Lines.{line_of, low_point, middle_point, high_point, curve_of}
@@ -28,29 +28,9 @@ curve_high r w h = rw (lt-leb (units w.distance) (v2 * w.samples) h)
 
 -- The numerator as the difference of two natural numbers.
 
-minus_more : (a b : ℕ) → pos a -ℤ pos (a + b) ≡ neg_ℤ (pos b)
-minus_more a zero = omega (arith, ints)
-minus_more a (suc b) = omega (arith, ints)
-
-times_sum : (p x y k : ℕ) → x ≡ y + k → p * x ≡ p * y + p * k
-times_sum p x y k e = rw e (mul-add p y k)
-
-times_minus : (p x y : ℕ) → pos p *ℤ (pos x -ℤ pos y) ≡ pos (p * x) -ℤ pos (p * y)
-times_minus p x y = by (dec_le y x)
-  where
-    by : Dec (y ≤ x) → pos p *ℤ (pos x -ℤ pos y) ≡ pos (p * x) -ℤ pos (p * y)
-    by (yes h) =
-        let k : pos x -ℤ pos y ≡ pos (x - y) = omega (arith, ints) in
-        let f : p * x ≡ p * y + p * (x - y) = times_sum p x y (x - y) (omega arith) in
-        rw k (omega (arith, ints))
-    by (no h) =
-        let k : pos x -ℤ pos y ≡ negsuc (y - suc x) = omega (arith, ints) in
-        let f : p * y ≡ p * x + p * suc (y - suc x) = times_sum p y x (suc (y - suc x)) (omega arith) in
-        rw (k, f) (sym (minus_more (p * x) (p * suc (y - suc x))))
-
 line_is : (a p b q n d : ℕ) → line a p b q n d ≡ pos (p * (b * n) + q * d) -ℤ pos (p * d + q * (a * n))
 unfolding line
-line_is a p b q n d = rw (times_minus p (b * n) d, times_minus q d (a * n)) (omega (arith, ints))
+line_is a p b q n d = rw (times_minus p (pos (b * n)) (pos d), times_minus q (pos d) (pos (a * n))) (omega (arith, ints))
 
 module _ (r : Reference) (w : Sums) (c : CurveAt) (is : c ≡ curve_of r w) where
   numerator_is : curve_numerator r w.samples (units w.distance) ≡ pos c.above -ℤ pos c.below

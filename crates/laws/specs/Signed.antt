@@ -2,6 +2,8 @@
 --     small                            a number that is small either way fits a width
 --     abs_mag                          the size of a number is at most one more than its `mag`, which is what `SFits` bounds
 --     abs_add, abs_sub, abs_mul        the size of a sum, a difference and a product
+--     swap                             of three terms the last two change places
+--     times_neg, times_minus           a product of a number with the other sign, and of a difference
 --     plus, difference, product        what the code's sum, difference and product of small numbers is, and that it fits
 --     less_fits, rolled_fits           a sum from which one value goes and to which one comes
 --     scaled                           the order is kept by a factor from zero on
@@ -11,8 +13,8 @@
 -- Assumes nothing.
 use Rattle.std.specs.Prelude.{Bool, true, false, cond, ◌≡◌, refl, ℕ, zero, suc, ◌+◌, ◌-◌, ◌*◌, ◌^◌, ◌≤◌, ◌<◌, leb, ltb, ℤ, pos, negsuc, neg_ℤ, nat_abs, ◌+ℤ◌, ◌-ℤ◌, ◌*ℤ◌}
 use Rattle.std.proofs.lemmas.Bool.{false≢true}
-use Rattle.std.proofs.Common.{ap₂, ◌∙◌, mul-le-mul, mul-le-mul_left, arith, leb-true, le-leb, ltb-true}
-use Rattle.std.proofs.Math.IntN.{sub_ℕ}
+use Rattle.std.proofs.Common.{sym, ap, ap₂, ◌∙◌, zero-mul, mul-le-mul, mul-le-mul_left, arith, leb-true, le-leb, ltb-true}
+use Rattle.std.proofs.Math.IntN.{sub_ℕ, suc_ℤ, pred_ℤ, neg_ℤ-neg_ℤ, suc_ℤ-+ℤ, pred_ℤ-+ℤ, +ℤ_idl, +ℤ_assoc, +ℤ_comm, zero-*ℤ, suc_ℤ-*ℤ, pred_ℤ-*ℤ, *ℤ_comm}
 use Rattle.std.specs.Int.Signed.{le_z, mag}
 use Rattle.std.specs.Int.{Width, w32, w64}
 use mir.Val.{SFits, of_z, to_z, hbits}
@@ -60,6 +62,37 @@ abs_mul (negsuc a) (negsuc b) = refl
 
 pub product_most : (a b : ℤ) {m n : ℕ} → nat_abs a ≤ m → nat_abs b ≤ n → nat_abs (a *ℤ b) ≤ m * n
 product_most a b h k = rw (abs_mul a b) (mul-le-mul h k)
+
+-- Products of sums, term by term.
+
+pub swap : (x y c : ℤ) → (x +ℤ y) +ℤ c ≡ (x +ℤ c) +ℤ y
+swap x y c = +ℤ_assoc x y c ∙ ap (λ t. x +ℤ t) (+ℤ_comm y c) ∙ sym (+ℤ_assoc x c y)
+
+module _ (b c : ℤ) where
+  next : (a : ℤ) → (a +ℤ b) *ℤ c ≡ a *ℤ c +ℤ b *ℤ c → (suc_ℤ a +ℤ b) *ℤ c ≡ suc_ℤ a *ℤ c +ℤ b *ℤ c
+  next a e = rw (suc_ℤ-+ℤ a b, suc_ℤ-*ℤ (a +ℤ b) c, e, suc_ℤ-*ℤ a c) (swap (a *ℤ c) (b *ℤ c) c)
+
+  previous : (a : ℤ) → (a +ℤ b) *ℤ c ≡ a *ℤ c +ℤ b *ℤ c → (pred_ℤ a +ℤ b) *ℤ c ≡ pred_ℤ a *ℤ c +ℤ b *ℤ c
+  previous a e = rw (pred_ℤ-+ℤ a b, pred_ℤ-*ℤ (a +ℤ b) c, e, pred_ℤ-*ℤ a c) (swap (a *ℤ c) (b *ℤ c) (neg_ℤ c))
+
+  none : (pos zero +ℤ b) *ℤ c ≡ pos zero *ℤ c +ℤ b *ℤ c
+  none = rw (+ℤ_idl b, zero-*ℤ c, +ℤ_idl (b *ℤ c)) refl
+
+  times_plus : (a : ℤ) → (a +ℤ b) *ℤ c ≡ a *ℤ c +ℤ b *ℤ c
+  times_plus (pos zero) = none
+  times_plus (pos (suc m)) = next (pos m) (times_plus (pos m))
+  times_plus (negsuc zero) = previous (pos zero) none
+  times_plus (negsuc (suc m)) = previous (negsuc m) (times_plus (negsuc m))
+
+pub times_neg : (k : ℤ) (n : ℕ) → neg_ℤ k *ℤ pos n ≡ neg_ℤ (k *ℤ pos n)
+times_neg (pos zero) n = rw (zero-mul n) refl
+times_neg (pos (suc m)) n = refl
+times_neg (negsuc m) n = sym (neg_ℤ-neg_ℤ (pos (suc m * n)))
+
+pub times_minus : (n : ℕ) (a b : ℤ) → pos n *ℤ (a -ℤ b) ≡ pos n *ℤ a -ℤ pos n *ℤ b
+times_minus n a b =
+    rw (*ℤ_comm (pos n) (a -ℤ b), *ℤ_comm (pos n) a, *ℤ_comm (pos n) b)
+    (times_plus (neg_ℤ b) (pos n) a ∙ ap (λ t. a *ℤ pos n +ℤ t) (times_neg b n))
 
 -- What code makes of small numbers.
 

@@ -10,15 +10,15 @@ use Rattle.std.specs.Prelude.{Bool, true, false, cond, not, List, [], ◌∷◌,
 use Rattle.std.proofs.lemmas.Bool.{false≢true}
 use Rattle.std.proofs.lemmas.Option.{none-some, same_Some}
 use Rattle.std.proofs.Math.Path.{sym, ap, subst}
-use Rattle.std.proofs.Common.{◌∙◌, mod-lt, mul-suc, mul-one, mul-zero, zero-mul, arith, ltb-true, ltb-false, lt-ltb}
+use Rattle.std.proofs.Common.{◌∙◌, mod-lt, mul-suc, mul-one, mul-zero, arith, ltb-true, ltb-false, lt-ltb}
 use Rattle.std.proofs.Math.Nat.{suc-mod}
-use Rattle.std.proofs.Math.IntN.{pos, suc_ℤ, pred_ℤ, neg_ℤ-neg_ℤ, suc_ℤ-+ℤ, pred_ℤ-+ℤ, +ℤ_idl, +ℤ_idr, +ℤ_assoc, +ℤ_comm, +ℤ_invr, +ℤ_one, neg_ℤ-+ℤ, zero-*ℤ, suc_ℤ-*ℤ, pred_ℤ-*ℤ, *ℤ_comm, -ℤ-+ℤ_cancel, ℤ_discrete}
+use Rattle.std.proofs.Math.IntN.{pos, suc_ℤ, neg_ℤ-neg_ℤ, +ℤ_idl, +ℤ_idr, +ℤ_assoc, +ℤ_comm, +ℤ_invr, +ℤ_one, neg_ℤ-+ℤ, *ℤ_comm, -ℤ-+ℤ_cancel, ℤ_discrete}
 use Rattle.model.specs.declared.Sample.{Sample}
 use Rattle.model.specs.declared.Function.TheVariants.{Average}
 use Rattle.model.specs.Numbers.{bit, floor_div, floor_mod, even, round_half_even, sumℤ}
 use Rattle.model.specs.Records.{Window}
 use Rattle.model.specs.Windows.{values, average, figure, reading}
-use Rattle.laws.specs.Signed.{abs_neg}
+use Rattle.laws.specs.Signed.{abs_neg, swap, times_neg, times_minus}
 use Rattle.laws.specs.Tests.{not_not}
 use Rattle.rounding.specs.Floor.{rest, rest_less, rest_is, doubled, round_is}
 
@@ -31,36 +31,7 @@ pub record Nearest (z : ℤ) (n : ℕ) (m : ℤ) : Type 0 where
   pub none_nearer : (k : ℤ) → gap z n m ≤ gap z n k
   pub even_of_two : (k : ℤ) → (k ≡ m → ⊥) → gap z n k ≡ gap z n m → even m ≡ true
 
--- Products of whole numbers, term by term.
-
-swap : (x y c : ℤ) → (x +ℤ y) +ℤ c ≡ (x +ℤ c) +ℤ y
-swap x y c = +ℤ_assoc x y c ∙ ap (λ t. x +ℤ t) (+ℤ_comm y c) ∙ sym (+ℤ_assoc x c y)
-
-module _ (b c : ℤ) where
-  next : (a : ℤ) → (a +ℤ b) *ℤ c ≡ a *ℤ c +ℤ b *ℤ c → (suc_ℤ a +ℤ b) *ℤ c ≡ suc_ℤ a *ℤ c +ℤ b *ℤ c
-  next a e = rw (suc_ℤ-+ℤ a b, suc_ℤ-*ℤ (a +ℤ b) c, e, suc_ℤ-*ℤ a c) (swap (a *ℤ c) (b *ℤ c) c)
-
-  previous : (a : ℤ) → (a +ℤ b) *ℤ c ≡ a *ℤ c +ℤ b *ℤ c → (pred_ℤ a +ℤ b) *ℤ c ≡ pred_ℤ a *ℤ c +ℤ b *ℤ c
-  previous a e = rw (pred_ℤ-+ℤ a b, pred_ℤ-*ℤ (a +ℤ b) c, e, pred_ℤ-*ℤ a c) (swap (a *ℤ c) (b *ℤ c) (neg_ℤ c))
-
-  none : (pos zero +ℤ b) *ℤ c ≡ pos zero *ℤ c +ℤ b *ℤ c
-  none = rw (+ℤ_idl b, zero-*ℤ c, +ℤ_idl (b *ℤ c)) refl
-
-  times_plus : (a : ℤ) → (a +ℤ b) *ℤ c ≡ a *ℤ c +ℤ b *ℤ c
-  times_plus (pos zero) = none
-  times_plus (pos (suc m)) = next (pos m) (times_plus (pos m))
-  times_plus (negsuc zero) = previous (pos zero) none
-  times_plus (negsuc (suc m)) = previous (negsuc m) (times_plus (negsuc m))
-
-times_neg : (k : ℤ) (n : ℕ) → neg_ℤ k *ℤ pos n ≡ neg_ℤ (k *ℤ pos n)
-times_neg (pos zero) n = rw (zero-mul n) refl
-times_neg (pos (suc m)) n = refl
-times_neg (negsuc m) n = sym (neg_ℤ-neg_ℤ (pos (suc m * n)))
-
-times_minus : (n : ℕ) (a b : ℤ) → pos n *ℤ (a -ℤ b) ≡ pos n *ℤ a -ℤ pos n *ℤ b
-times_minus n a b =
-    rw (*ℤ_comm (pos n) (a -ℤ b), *ℤ_comm (pos n) a, *ℤ_comm (pos n) b)
-    (times_plus (neg_ℤ b) (pos n) a ∙ ap (λ t. a *ℤ pos n +ℤ t) (times_neg b n))
+-- Differences of whole numbers.
 
 minus_minus : (a b : ℤ) → a -ℤ (a -ℤ b) ≡ b
 minus_minus a b =

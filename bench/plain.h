@@ -1,6 +1,6 @@
-/* The six calls, the tally of a block and its CO2 windows in plain C, by hand: what the core is measured against, and a second
- * reckoning for long runs. The calls and their answers are those of rde.h on any list of calls from a clear, the data structures those
- * of the core; the bytes of the area are its own, without a format mark. */
+/* The six calls, tallies of blocks and their joins, and CO2 windows in plain C, by hand: what the core is measured against, joins left
+ * out, and a second reckoning for long runs. The calls and their answers are those of rde.h on any list of calls from a clear, the data
+ * structures those of the core; the bytes of the area are its own, without a format mark. */
 #ifndef PLAIN_H
 #define PLAIN_H
 
@@ -17,6 +17,9 @@ rde_verdict_answer plain_verdict(const uint8_t *area, size_t area_len);
 
 /* The tally of a block of samples; the refusal's number, or 0. */
 uint32_t plain_tally(const uint8_t *block, size_t len, uint8_t *out, size_t out_len);
+
+/* Two tallies joined; the refusal's number, or 0. */
+uint32_t plain_join(const uint8_t *a, size_t a_len, const uint8_t *b, size_t b_len, uint8_t *out, size_t out_len);
 
 /* The CO2 windows of a block of samples, as rde_co2 answers. */
 rde_co2_answer plain_co2(const uint8_t *block, size_t len, const uint8_t *reference, size_t reference_len);

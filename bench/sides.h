@@ -98,6 +98,14 @@ static inline int target_speed(int done)
     return done < 78 ? 650 + rand() % 230 : 1000 + rand() % 280;
 }
 
+/* NOx by chance, and by how much faster the car gets. A reading of less than 8 ppm stands as far below zero, as where the analyser's zero
+ * drifts. */
+static inline int nox_reading(int change)
+{
+    int nox = rand() % 50 + (change > 0 ? 4 * change : 0);
+    return nox < 8 ? -nox : nox;
+}
+
 /* A drive whose speed goes towards a target by at most 12 tenths of km/h a second, with some unrest, and whose road falls by a metre
  * a minute: its first half hour keeps rule 21, the whole breaks it. It is above 700 m at first and at 303.0 K or more in the last half hour:
  * the whole is not exceeded, but would be if extended samples weighed in full. */
@@ -120,7 +128,7 @@ static inline void make_drive(void)
         put_u16(p + 4, (uint32_t)altitude);
         put_u16(p + 6, (i < 5400 ? 2900u : 3030u) + (uint32_t)rand() % 40);
         put_u16(p + 8, 100u + (uint32_t)speed + (uint32_t)(change > 0 ? 40 * change : 0));
-        put_u16(p + 10, (uint32_t)(rand() % 50) + (uint32_t)(change > 0 ? 4 * change : 0));
+        put_u16(p + 10, (uint32_t)nox_reading(change));
         put_u16(p + 12, 500u + 3u * (uint32_t)speed + (uint32_t)(rand() % 300));
     }
 }

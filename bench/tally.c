@@ -26,10 +26,11 @@ int main(void)
 {
     srand(1);
     for (int i = 0; i < SAMPLES; i++) {
-        /* temperature and altitude go through every edge of the extended conditions, one at a time */
+        /* a tenth of NOx is below zero; temperature and altitude go through every edge of the extended conditions, one at a time */
         unsigned v = (unsigned)rand() % 1500, f = (unsigned)rand() % 3000, x = (unsigned)rand() % 300;
         unsigned t = 2650 + (unsigned)i / 16, a = (unsigned)i / 2 % 1400;
         uint8_t *p = block + 16 * i;
+        x = x < 30 ? -x : x;
         p[0] = (uint8_t)i, p[1] = (uint8_t)(i / 256);
         p[2] = (uint8_t)v, p[3] = (uint8_t)(v / 256);
         p[4] = (uint8_t)a, p[5] = (uint8_t)(a / 256);

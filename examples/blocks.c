@@ -14,6 +14,12 @@ static uint64_t number(const uint8_t *tally, int k)
     return n;
 }
 
+/* The same where it is U or extended U, which may be below zero. */
+static int64_t signed_number(const uint8_t *tally, int k)
+{
+    return (int64_t)number(tally, k);
+}
+
 int main(void)
 {
     /* two samples at 50.0 and 100.1 km/h and 293.1 K, and one at 130.0 km/h and 304.1 K, which is extended: 100 m up, 100.0 kg/h, 20 ppm */
@@ -26,6 +32,6 @@ int main(void)
         return 1;
     printf("samples: urban %" PRIu64 ", rural %" PRIu64 ", motorway %" PRIu64 "\n", number(both, 0), number(both, 1), number(both, 2));
     printf("motorway distance: %" PRIu64 " units of 1/36000 km\n", number(both, 5));
-    printf("channel 6: %" PRIu64 ", of it %" PRIu64 " in extended conditions\n", number(both, 12), number(both, 13));
+    printf("channel 6: %" PRId64 ", of it %" PRId64 " in extended conditions\n", signed_number(both, 12), signed_number(both, 13));
     return 0;
 }

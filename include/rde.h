@@ -28,8 +28,8 @@
  *     rde_close     8
  *     rde_read      8
  *     rde_verdict   392
- *     rde_tally     113
- *     rde_join      584
+ *     rde_tally     97
+ *     rde_join      600
  *     rde_co2       120
  */
 #ifndef RDE_H
@@ -57,8 +57,14 @@ extern "C" {
  *        of function 4 is what it was, or one more. Nothing else changes: no verdict, no refusal, no record, no tally, no byte of the
  *        area. Areas and tallies are used on, and a trip begun before the change is read with the new rounding from then on.
  *     5  rde_co2 and its refusal RDE_REFERENCE are new. Nothing else changes: areas, records and tallies are used on. rde_tally takes 113
- *        bytes of stack, 120 before. */
-#define RDE_VERSION 5
+ *        bytes of stack, 120 before.
+ *     6  NOx is signed, -50 to 5000: a record with NOx from -50 to -1, refused with RDE_RANGE before, is taken by each call that takes
+ *        samples. So readings of channels 4 and 6 may be below zero. U and extended U of a tally are signed; in a well-formed one each is
+ *        from -1000000 x n to 100000000 x n, and extended U may be above U: rde_join gave RDE_TALLY before where either was below zero
+ *        or extended U was above U. What was taken before is answered as before: areas, records and tallies are used on. Not the other
+ *        way round: an older version may refuse a tally of this one, and misreads an area of this one that holds NOx below zero.
+ *        rde_tally takes 97 bytes of stack, 113 before, rde_join 600, 584 before. */
+#define RDE_VERSION 6
 
 /* What a call answers: refusal 0 means accepted, with the value; any other refusal has value 0 and has changed no byte. */
 typedef struct {
@@ -129,7 +135,7 @@ enum {
 
 #define RDE_AREA_LEN 63532  /* bytes of the state area; rde_area_len() gives the same */
 #define RDE_RECORD_LEN 16   /* bytes of a sample record, of a window record and of a reference record */
-#define RDE_TALLY_LEN 112   /* bytes of a tally: fourteen u64 */
+#define RDE_TALLY_LEN 112   /* bytes of a tally: twelve u64 and two i64 */
 #define RDE_MAX_SAMPLES 7201
 #define RDE_MAX_WINDOWS 16
 
@@ -140,8 +146,10 @@ enum {
  *      4  i16   altitude       m         -500 to 5000
  *      6  u16   temperature    0.1 K     2000 to 3500
  *      8  u16   exhaust flow   0.1 kg/h  0 to 20000
- *     10  u16   NOx            ppm       0 to 5000
+ *     10  i16   NOx            ppm       -50 to 5000
  *     12  u32   CO2            mg/s      0 to 100000
+ * NOx below zero is the analyser's zero drift. It is given as it was measured: where each reading below zero is given as 0, the mean of
+ * all readings is too high, and a drive within the limit may be told as exceeded. What is below -50 is out of range (RDE_RANGE).
  *
  * A window record:
  *     at  type  what
@@ -155,9 +163,10 @@ enum {
  *     12  i32   high, not below low
  * A window looks at the last samples taken, as many as its width, or at all where they are fewer. Those whose condition channel is
  * within low to high, both included, qualify. Low, high and readings but the count are in their channel's unit, channel 6 in
- * 0.1 kg/h x ppm. The average is the sum by the count, rounded to the nearest whole unit, an exact half to the even neighbour: -3 and
- * -4 give -4, -2 and -3 give -2, 1 and 2 give 2. The percentile is the least qualifying value v such that at least 95 in 100 of the
- * qualifying values are v or less.
+ * 0.1 kg/h x ppm. Channels 1, 4 and 6 may be below zero, and so may their readings: the smallest of -5 and 3 is -5. Low and high may be
+ * below zero for any channel. The average is the sum by the count, rounded to the nearest whole unit, an exact half to the even
+ * neighbour: -3 and -4 give -4, -2 and -3 give -2, 1 and 2 give 2. The percentile is the least qualifying value v such that at least 95
+ * in 100 of the qualifying values are v or less.
  *
  * A tally. A sample's class goes by its speed: urban up to 60.0 km/h, rural above that and up to 90.0 km/h, motorway above 90.0 km/h.
  *     at  type  what                                             at most, in a well-formed tally
@@ -173,12 +182,12 @@ enum {
  *     72  u64   samples above 160.0 km/h                         n
  *     80  u64   samples below 266.0 K or above 308.0 K           n
  *     88  u64   samples above 1300 m                             n
- *     96  u64   U, the sum of channel 6, 0.1 kg/h x ppm          100000000 x n
- *    104  u64   extended U, the same of the extended samples     U
+ *     96  i64   U, the sum of channel 6, 0.1 kg/h x ppm          100000000 x n, and at least -1000000 x n
+ *    104  i64   extended U, the same of the extended samples     the same, whatever U is: it may be above U
  * A sample is extended, taken in what the regulation calls extended conditions, at 266.0 to 272.9 K, at 303.1 to 308.0 K, ends
  * included, or above 700 m and up to 1300 m: 700 m is not extended, 1300 m is. One condition is enough, whatever the other value is; a
  * sample that meets two counts once. U holds every sample, the extended ones too; other U, that of the samples which are not extended,
- * is U less extended U.
+ * is U less extended U. U, extended U and other U may each be below zero.
  *
  * A reference record, which is of the car and not of a drive:
  *     at  type  what                                       unit  range
@@ -218,7 +227,8 @@ enum {
  *     21       the altitudes of the first and the last sample differ by 101 m or more, up or down; kept if there is no sample. In a
  *              verdict before the end the last sample is the latest one taken: the rule may be broken on the way and kept at the end
  * Exceeded, told also where rules are broken: D > 0 and 1586 x (8 x other U + 5 x extended U) > 640000 x D, U and extended U over the
- * trip's samples, as in a tally: above 80 mg/km, where NOx of extended samples is divided by 1.6. */
+ * trip's samples, as in a tally: above 80 mg/km, where NOx of extended samples is divided by 1.6. A trip whose 8 x other U + 5 x extended U
+ * is 0 or less is never exceeded. */
 
 /* The rules' names in words: const char *const names[RDE_RULES] = RDE_RULE_NAMES; */
 #define RDE_RULES 22
@@ -286,7 +296,7 @@ rde_verdict_answer rde_verdict(const uint8_t *area, size_t area_len);
 rde_answer rde_tally(const uint8_t *block, size_t block_len, uint8_t *out, size_t out_len);
 
 /* The tally of two tallies' samples together into out, which has exactly RDE_TALLY_LEN bytes and shares no byte with a or b. Value 0.
- * a and b may be the same bytes. Refusals, in this order: RDE_LENGTH (of out), RDE_TALLY (a or b not RDE_TALLY_LEN bytes, or above a
+ * a and b may be the same bytes. Refusals, in this order: RDE_LENGTH (of out), RDE_TALLY (a or b not RDE_TALLY_LEN bytes, or outside a
  * limit of the table), RDE_JOINED; out is then as it was. */
 rde_answer rde_join(const uint8_t *a, size_t a_len, const uint8_t *b, size_t b_len, uint8_t *out, size_t out_len);
 

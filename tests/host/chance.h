@@ -1,4 +1,4 @@
-/* Numbers, records and calls by chance; the same seed gives the same ones. */
+/* Numbers, records, tallies and calls by chance; the same seed gives the same ones. */
 #ifndef CHANCE_H
 #define CHANCE_H
 
@@ -55,16 +55,16 @@ typedef struct {
 } values;
 
 /* How a list's values are drawn. */
-enum { TINY, EQUAL, NEAR_EDGES, WIDE, DRIVE, CLIMBS, BANDS, STYLES };
+enum { TINY, EQUAL, NEAR_EDGES, WIDE, DRIVE, CLIMBS, BANDS, DRIFTS, STYLES };
 
 static inline values tiny_values(void)
 {
-    return (values){between(0, 3), between(-2, 2), between(2931, 2933), between(0, 3), between(0, 3), between(0, 3)};
+    return (values){between(0, 3), between(-2, 2), between(2931, 2933), between(0, 3), between(-3, 3), between(0, 3)};
 }
 
 static inline values wide_values(void)
 {
-    return (values){between(0, 3000), between(-500, 5000), between(2000, 3500), between(0, 20000), between(0, 5000),
+    return (values){between(0, 3000), between(-500, 5000), between(2000, 3500), between(0, 20000), between(-50, 5000),
                     between(0, 100000)};
 }
 
@@ -72,6 +72,9 @@ static inline values wide_values(void)
 
 /* Both sides of each edge of the extended conditions; those of rules 13 and 14 are among them. */
 static const int32_t band_temperatures[] = {2659, 2660, 2729, 2730, 3030, 3031, 3080, 3081}, band_altitudes[] = {700, 701, 1300, 1301};
+
+/* NOx at the ends of its range and beside zero. */
+static const int32_t edge_nox[] = {-50, -49, -2, -1, 0, 1, 2, 4999, 5000};
 
 static inline int32_t near_edge(int32_t low, int32_t high)
 {
@@ -81,7 +84,7 @@ static inline int32_t near_edge(int32_t low, int32_t high)
 static inline values edge_values(void)
 {
     static const int32_t speeds[] = {0, 9, 10, 600, 601, 900, 901, 1000, 1001, 1450, 1451, 1600, 1601, 3000};
-    values v = {near_edge(0, 3000), near_edge(-500, 5000), near_edge(2000, 3500), near_edge(0, 20000), near_edge(0, 5000),
+    values v = {near_edge(0, 3000), near_edge(-500, 5000), near_edge(2000, 3500), near_edge(0, 20000), ONE_OF(edge_nox),
                 near_edge(0, 100000)};
     if (once_in(2))
         v.speed = ONE_OF(speeds);
@@ -101,10 +104,19 @@ static inline values band_values(void)
                     ONE_OF(amounts), 0};
 }
 
+/* NOx of an analyser whose zero drifts, extended or not, over little or no distance: the weighted sum of U is on both sides of 0 and of
+ * its limit. */
+static inline values drift_values(void)
+{
+    static const int32_t flows[] = {0, 1, 1, 2, 7, 500, 20000};
+    return (values){between(0, 3), once_in(3) ? ONE_OF(band_altitudes) : 100, once_in(3) ? ONE_OF(band_temperatures) : 2931,
+                    ONE_OF(flows), once_in(4) ? ONE_OF(edge_nox) : between(-9, 9), 0};
+}
+
 /* A step from the values before, as on a road. */
 static inline values drive_values(const values *before)
 {
-    values v = {before->speed + between(-14, 15), before->altitude + between(-1, 1), 2931, between(0, 3000), between(0, 150),
+    values v = {before->speed + between(-14, 15), before->altitude + between(-1, 1), 2931, between(0, 3000), between(-20, 130),
                 between(0, 5000)};
     if (once_in(200))
         v.speed = between(0, 1300);
@@ -140,7 +152,7 @@ static inline values climb_values(const trip *t)
     v.speed = v.speed >= low && v.speed <= high ? v.speed + t->rise + between(-1, 1) : low + between(0, t->rise);
     v.altitude = altitudes[below(3)];
     v.flow = between(0, 3000);
-    v.nox = between(0, 60);
+    v.nox = between(-20, 80);
     return v;
 }
 
@@ -156,6 +168,8 @@ static inline values next_values(const trip *t)
         return climb_values(t);
     if (t->style == BANDS)
         return band_values();
+    if (t->style == DRIFTS)
+        return drift_values();
     return t->style == DRIVE ? drive_values(&t->before) : wide_values();
 }
 
@@ -170,9 +184,10 @@ static inline void sample_record(uint8_t *p, uint32_t second, const values *v)
     put_le(p + 12, 4, (uint32_t)v->co2);
 }
 
-/* One field of a sample record just outside its range. */
+/* One field of a sample record just outside its range, or NOx at an end of what its two bytes mean. */
 static inline void spoil_sample(uint8_t *p)
 {
+    static const uint32_t bad_nox[] = {(uint32_t)-51, 5001, 0x7fff, 0x8000};
     switch (below(8)) {
     case 0: put_le(p + 2, 2, 3001); break;
     case 1: put_le(p + 4, 2, (uint32_t)-501); break;
@@ -180,20 +195,24 @@ static inline void spoil_sample(uint8_t *p)
     case 3: put_le(p + 6, 2, 1999); break;
     case 4: put_le(p + 6, 2, 3501); break;
     case 5: put_le(p + 8, 2, 20001); break;
-    case 6: put_le(p + 10, 2, 5001); break;
+    case 6: put_le(p + 10, 2, ONE_OF(bad_nox)); break;
     default: put_le(p + 12, 4, once_in(2) ? 100001 : 0xffffffff); break;
     }
 }
+
+/* The ends of NOx below zero, those of channel 6, what is beside them, and zero. */
+static const int32_t bounds_below[] = {-1000001, -1000000, -999999, -20000, -100, -51, -50, -49, -9, -2, -1, 0, 1};
 
 /* Bounds of a window's condition: often all values, now and then none, otherwise some. */
 static inline void random_bounds(uint8_t *p)
 {
     static const int32_t tops[] = {3, 3000, 5000, 3500, 20000, 100000, 100000000};
     int32_t low = INT32_MIN, high = INT32_MAX, top = tops[below(7)];
-    switch (below(4)) {
+    switch (below(5)) {
     case 0: low = between(-5, top), high = between(low, top); break;
     case 1: low = high = between(-3, 3); break;
-    case 2: low = once_in(3) ? 100000001 : -500; break;
+    case 2: low = once_in(3) ? 100000001 : -1000000; break;
+    case 3: low = ONE_OF(bounds_below), high = low + (once_in(4) ? 0 : between(0, 1000002)); break;
     default: break;
     }
     put_le(p, 4, (uint32_t)low);
@@ -203,12 +222,15 @@ static inline void random_bounds(uint8_t *p)
 static inline void window_record(uint8_t *p)
 {
     static const uint32_t widths[] = {1, 2, 3, 5, 17, 100, 599, 600};
+    static const uint8_t signed_channels[] = {1, 4, 6}; /* those that go below zero */
     memset(p, 0, RDE_RECORD_LEN);
     p[0] = (uint8_t)below(6);
     p[1] = (uint8_t)below(7);
-    if (once_in(6)) /* an average of altitudes, the one channel that goes below zero */
-        p[0] = 4, p[1] = 1;
-    p[2] = (uint8_t)below(7);
+    if (once_in(3))
+        p[1] = ONE_OF(signed_channels);
+    if (once_in(6))
+        p[0] = 4, p[1] = ONE_OF(signed_channels);
+    p[2] = once_in(3) ? ONE_OF(signed_channels) : (uint8_t)below(7);
     put_le(p + 4, 2, once_in(4) ? 1 + below(600) : widths[below(8)]);
     random_bounds(p + 8);
 }
@@ -226,6 +248,53 @@ static inline void spoil_window(uint8_t *p)
     case 6: put_le(p + 6, 2, (uint32_t)between(1, 65535)); break;
     default: put_le(p + 8, 4, 1), put_le(p + 12, 4, 0); break;
     }
+}
+
+/* --- Tallies --- */
+
+static inline uint64_t up_to(uint64_t most)
+{
+    return most < UINT32_MAX ? below((uint32_t)most + 1) : draw() % (most + 1);
+}
+
+/* A number of a tally, from 0 on: mostly within its bound, often at it, now and then one above it. */
+static inline uint64_t counted_number(uint64_t most)
+{
+    return once_in(40) ? most + 1 : once_in(2) ? up_to(most) : most;
+}
+
+/* U or extended U of n samples: at a bound or beside it, about zero, between the bounds, or a pattern of eight bytes. */
+static inline int64_t nox_number(int64_t n)
+{
+    static const int64_t odd[] = {INT64_MIN, INT64_MIN + 1, INT64_MAX, INT64_C(0xffffffff), -INT64_C(0x100000000)};
+    int64_t low = -1000000 * n, high = 100000000 * n;
+    switch (below(8)) {
+    case 0: return low;
+    case 1: return high;
+    case 2: return once_in(4) ? low - 1 : low + (n > 0);
+    case 3: return once_in(4) ? high + 1 : high - (n > 0);
+    case 4: return once_in(6) ? ONE_OF(odd) : 0;
+    case 5: return n > 0 ? between(-3, 3) : 0;
+    case 6: return low + (int64_t)up_to((uint64_t)-low);
+    default: return low + (int64_t)up_to((uint64_t)(high - low));
+    }
+}
+
+/* A tally of some samples, now and then ill-formed; extended U and U are drawn apart, so each may be the greater. */
+static inline void random_tally(uint8_t *p)
+{
+    static const uint32_t tops[] = {600, 900, 3000}, counts[] = {0, 1, 2, 1200, 2400, 2401};
+    uint64_t n = 0;
+    for (size_t c = 0; c < 3; c++) {
+        uint64_t samples = ONE_OF(counts);
+        n += samples;
+        put_le(p + 8 * c, 8, samples);
+        put_le(p + 24 + 8 * c, 8, counted_number(tops[c] * samples));
+    }
+    for (size_t k = 6; k < 12; k++)
+        put_le(p + 8 * k, 8, counted_number(n));
+    put_le(p + 96, 8, (uint64_t)nox_number((int64_t)n));
+    put_le(p + 104, 8, (uint64_t)nox_number((int64_t)n));
 }
 
 /* --- Calls --- */

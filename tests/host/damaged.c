@@ -1,7 +1,8 @@
 /* Areas that no list of calls leaves: never cleared (random bytes, all 0, all 255); what a list of calls left with the mark of the
- * format before, with 1 to 40 bytes changed, with a stretch of random bytes, or joined from two such areas. On each, every call is
- * made with good and bad records: each ends without a fault, a refusal changes no byte, 11 and 1 are given exactly when due (lent.h);
- * one that was never cleared, or has the mark of the format before, is refused with 255. Then clear makes the area fresh: a short list
+ * format before, with 1 to 40 bytes changed, with a stretch of random bytes, with flow and NOx of its records or with U and extended U of
+ * its tally changed, or joined from two such areas. On each, every call is made with good and bad records: each ends without a fault, a
+ * refusal changes no byte, 11 and 1 are given exactly when due (lent.h); one that was never cleared, or has the mark of the format before,
+ * is refused with 255, and so is the verdict where U or extended U is beyond its bounds. Then clear makes the area fresh: a short list
  * answers as document 01 says.
  *     damaged COUNT [SEED]
  * An area passes or fails as a whole. Prints the refusals by number; the last line is 'N passed, M failed'. */
@@ -87,12 +88,123 @@ static void change_joined(lent *l, trip *t)
     memcpy(l->area, first, from);
 }
 
+/* --- Damage to readings and sums of NOx --- */
+
+#define MOST_DRIFTING 40
+
+static struct {
+    uint32_t count; /* of the samples that make_drifting gave */
+    uint8_t block[MOST_DRIFTING * RDE_RECORD_LEN];
+    int beyond;     /* the area's U or extended U is beyond its bounds */
+} drifting;
+
+/* Of twelve windows one: each function on NOx and on channel 6, under a condition on either, which mostly holds of every sample. */
+static call drifting_window(uint32_t number)
+{
+    static const uint8_t widths[] = {1, 2, 3, 5, 17};
+    call c = {.kind = DECLARE, .record_len = RDE_RECORD_LEN};
+    c.record[0] = (uint8_t)(number / 2);
+    c.record[1] = number % 2 == 0 ? 4 : 6;
+    c.record[2] = once_in(2) ? 4 : 6;
+    c.record[4] = ONE_OF(widths);
+    if (once_in(4)) {
+        random_bounds(c.record + 8);
+    } else {
+        put_le(c.record + 8, 4, (uint32_t)INT32_MIN);
+        put_le(c.record + 12, 4, INT32_MAX);
+    }
+    return c;
+}
+
+/* A fresh area with twelve such windows and samples whose NOx is about zero. */
+static trip make_drifting(lent *l)
+{
+    trip t = trip_start(MOST_DRIFTING, 0);
+    call c = {.kind = CLEAR};
+    answer a = lent_call(l, &c);
+    t.style = DRIFTS;
+    for (uint32_t k = 0; k < 12; k++) {
+        c = drifting_window(k);
+        a = lent_call(l, &c);
+        trip_step(&t, &c, &a);
+    }
+    drifting.count = 1 + below(MOST_DRIFTING);
+    for (uint32_t k = 0; k < drifting.count; k++) {
+        c = draw_call(&t, SAMPLE);
+        a = lent_call(l, &c);
+        trip_step(&t, &c, &a);
+        memcpy(drifting.block + RDE_RECORD_LEN * k, c.record, RDE_RECORD_LEN);
+    }
+    return t;
+}
+
+/* Where the area holds these bytes; so no place in it is named here. */
+static uint8_t *place_of(lent *l, const uint8_t *bytes, size_t len)
+{
+    uint8_t *at = memmem(l->area, RDE_AREA_LEN, bytes, len);
+    if (at == NULL)
+        lent_wrong(l, "a record or the tally of the samples is not found in the area");
+    return at;
+}
+
+/* Flow and NOx of some of the records, up to the ends of what two bytes mean: their product is then the least and the greatest. */
+static void change_readings(lent *l)
+{
+    static const uint32_t flows[] = {0, 1, 20000, 0x7fff, 0x8000, 65535, 65535, 65535};
+    static const uint32_t amounts[] = {0, 1, 5000, 0x7fff, 0x7fff, 0x8000, 0x8000, 65485, 65535};
+    for (uint32_t k = 0; k < drifting.count; k++) {
+        uint8_t *at = once_in(2) ? place_of(l, drifting.block + RDE_RECORD_LEN * k, RDE_RECORD_LEN) : NULL;
+        if (at != NULL) {
+            put_le(at + 8, 2, ONE_OF(flows));
+            put_le(at + 10, 2, ONE_OF(amounts));
+        }
+    }
+}
+
+/* Makes a U or an extended U of n samples, in turn, one at a bound or just beyond it, or a pattern of eight bytes. */
+static void change_sum(uint8_t *at, int64_t n)
+{
+    static uint32_t turn;
+    const int64_t low = -1000000 * n, high = 100000000 * n;
+    const int64_t sums[] = {low, low - 1, high, high + 1, -1, 0, INT64_MIN, INT64_MAX, INT64_C(1) << 47, -(INT64_C(1) << 47)};
+    int64_t sum = sums[turn++ % (sizeof sums / sizeof *sums)];
+    put_le(at, 8, (uint64_t)sum);
+    drifting.beyond = drifting.beyond || sum < low || sum > high;
+}
+
+/* U, extended U or both of the area's tally. */
+static void change_sums(lent *l)
+{
+    uint8_t tally[RDE_TALLY_LEN], *at;
+    uint32_t which = 1 + below(3);
+    rde_tally(drifting.block, RDE_RECORD_LEN * drifting.count, tally, sizeof tally);
+    at = place_of(l, tally, sizeof tally);
+    if (at != NULL && which & 1)
+        change_sum(at + RDE_TALLY_LEN - 16, drifting.count);
+    if (at != NULL && which & 2)
+        change_sum(at + RDE_TALLY_LEN - 8, drifting.count);
+}
+
+static trip change_drifting(lent *l)
+{
+    trip t = make_drifting(l);
+    uint32_t which = 1 + below(3);
+    if (which & 1)
+        change_readings(l);
+    if (which & 2)
+        change_sums(l);
+    return t;
+}
+
 /* Puts damage into the area; gives where a list would go on. */
 static trip damage(lent *l)
 {
     trip t;
-    uint32_t kind = below(10);
-    if (kind == 0) {
+    uint32_t kind = below(14);
+    drifting.beyond = 0;
+    if (kind > 9) {
+        t = change_drifting(l);
+    } else if (kind == 0) {
         t = trip_start(40, 4);
         random_bytes(l->area, RDE_AREA_LEN);
         if (once_in(2))
@@ -112,6 +224,37 @@ static trip damage(lent *l)
 
 /* --- Calls on it --- */
 
+static answer make_plain(lent *l, int kind, uint32_t window)
+{
+    call c = {.kind = kind, .window = window};
+    answer a = lent_call(l, &c);
+    count(&a);
+    return a;
+}
+
+/* The verdict and every reading. */
+static void judge_and_read(lent *l)
+{
+    make_plain(l, VERDICT, 0);
+    for (uint32_t w = 0; w <= RDE_MAX_WINDOWS; w++)
+        make_plain(l, READ, w);
+}
+
+/* Some more samples of a drifting trip, by which most of its windows leave the damaged ones; a verdict and every reading after each, and
+ * mostly before the first one too. */
+static void go_on(lent *l, trip *t)
+{
+    if (!once_in(4))
+        judge_and_read(l);
+    for (uint32_t k = 0; k < 6; k++) {
+        call c = draw_call(t, SAMPLE);
+        answer a = lent_call(l, &c);
+        count(&a);
+        trip_step(t, &c, &a);
+        judge_and_read(l);
+    }
+}
+
 /* Every kind of call but clear, with good and bad records, and with other lengths of the area. */
 static void make_calls(lent *l, trip t)
 {
@@ -127,11 +270,7 @@ static void make_calls(lent *l, trip t)
         if (once_in(8))
             lent_other_lengths(l, &c, below(4));
     }
-    for (uint32_t w = 0; w <= RDE_MAX_WINDOWS; w++) {
-        call c = {.kind = READ, .window = w};
-        answer a = lent_call(l, &c);
-        count(&a);
-    }
+    judge_and_read(l);
 }
 
 /* --- Stated answers --- */
@@ -222,6 +361,10 @@ static void run_area(lent *l, long k)
     lent_settle(l);
     unmarked(l);
     t = damage(l);
+    if (drifting.beyond)
+        expect_plain(l, VERDICT, refusal_alone(RDE_DAMAGED));
+    if (t.style == DRIFTS)
+        go_on(l, &t);
     make_calls(l, t);
     short_list(l);
     if (l->wrong == NULL) {

@@ -82,6 +82,65 @@ enum {
     NOX_CLEAR,             /* clear keeps extended U */
     NOX_REFUSED,           /* a refused sample's channel 6 is added */
     NOX_REFUSED_EXTENDED,  /* and to extended U alone */
+    NOX_U_UNSIGNED,        /* from here on, NOx below zero, in verdicts: its field is read unsigned */
+    NOX_U_CLIPPED,         /* readings below 0 are taken for 0, as firmware did */
+    NOX_U_MAGNITUDE,       /* they are taken without their sign */
+    NOX_U_SHORT,           /* a channel 6 below 0 is added as four bytes without a sign */
+    NOX_U_HELD,            /* U never goes below 0 */
+    NOX_EXTENDED_CLIPPED,  /* an extended U below 0 is 0 */
+    NOX_EXTENDED_HELD,     /* extended U is U at most */
+    NOX_OTHER_CLIPPED,     /* an other U below 0 is 0 */
+    NOX_BELOW_MAGNITUDE,   /* the weighted sum is taken without its sign */
+    NOX_BELOW_UNSIGNED,    /* it is compared unsigned */
+    NOX_BELOW_U,           /* a U of 0 or less is never exceeded */
+    NOX_BELOW_EXTENDED,    /* an extended U below 0 is never exceeded */
+    NOX_BELOW_DAMAGED,     /* a trip of a U below 0 is refused with 255 */
+    NOX_BELOW_DAMAGED_EXTENDED, /* one of an extended U below 0 is */
+    NOX_ABOVE_DAMAGED,     /* one of an extended U above U is */
+    NOX_LESS,              /* from here on, which samples are taken: one of -51 is */
+    NOX_MORE,              /* one of 5001 is */
+    NOX_FROM_MORE,         /* one of -50 is refused */
+    NOX_TO_LESS,           /* one of 5000 is refused */
+    NOX_FIELD_UNSIGNED,    /* each below 0 is refused */
+    NOX_LEAST,             /* one of -32768 is taken */
+    NOX_MOST,              /* one of 32767 is taken */
+    NOX_4_UNSIGNED,        /* from here on, what windows read of channel 4: the field is read unsigned */
+    NOX_6_UNSIGNED,        /* and the same of channel 6, and so on */
+    NOX_4_CLIPPED,         /* readings below 0 are taken for 0, as firmware did */
+    NOX_6_CLIPPED,
+    NOX_4_MAGNITUDE,       /* they are taken without their sign */
+    NOX_6_MAGNITUDE,
+    NOX_4_CONDITION_FIELD, /* a condition reads the field unsigned */
+    NOX_6_CONDITION_FIELD,
+    NOX_4_CONDITION_ORDER, /* it compares unsigned */
+    NOX_6_CONDITION_ORDER,
+    NOX_4_CONDITION_ZERO,  /* it takes readings below 0 for 0 */
+    NOX_6_CONDITION_ZERO,
+    NOX_4_SUM,             /* a sum below 0 is told as 0 */
+    NOX_6_SUM,
+    NOX_4_SMALLEST,        /* values below 0 are the greatest for the smallest */
+    NOX_6_SMALLEST,
+    NOX_4_LARGEST,         /* for the largest */
+    NOX_6_LARGEST,
+    NOX_4_PERCENTILE,      /* for the percentile */
+    NOX_6_PERCENTILE,
+    NOX_4_AVERAGE,         /* averages below 0 are cut toward zero */
+    NOX_6_AVERAGE,
+    NOX_4_SHORT,           /* readings below 0 are told as four bytes without a sign */
+    NOX_6_SHORT,
+    NOX_4_MOVES,           /* moves are those of values compared unsigned */
+    NOX_6_MOVES,
+    NOX_DAMAGED_SAMPLE_LEAST,  /* a sample on an area that holds a flow of 65535 and NOx of -32768 faults */
+    NOX_DAMAGED_SAMPLE_MOST,   /* NOx of 32767 */
+    NOX_DAMAGED_READ_LEAST,    /* so does a reading, of the first */
+    NOX_DAMAGED_READ_MOST,     /* of the second */
+    NOX_DAMAGED_SAMPLE_U,      /* a sample on one with a U or an extended U of -2^63 faults */
+    NOX_DAMAGED_VERDICT_LEAST, /* so does a verdict */
+    NOX_DAMAGED_VERDICT_MOST,  /* one of 2^63 - 1 */
+    NOX_DAMAGED_MENDED,        /* a verdict that is refused mends a U or an extended U of -2^63 */
+    NOX_DAMAGED_TAKEN,         /* one is given on it */
+    NOX_DAMAGED_LESS,          /* on one that is one below its lower bound */
+    NOX_DAMAGED_MORE,          /* on one that is one above its upper bound */
     BAND_COLD_FROM_LESS,   /* from here on, which samples are extended, in verdicts and in tallies: from 2659 */
     BAND_COLD_FROM_MORE,   /* from 2661 */
     BAND_COLD_TO_LESS,     /* to 2728 */
@@ -111,6 +170,26 @@ enum {
     TALLY_EXTENDED_ALL,    /* extended U is U */
     TALLY_NOX_OTHER,       /* U is other U: extended U is taken from it */
     TALLY_BEFORE,          /* an output without room for the last field is taken */
+    NOX_TALLY_LESS,        /* a block with NOx of -51 is taken */
+    NOX_TALLY_MORE,        /* one of 5001 is */
+    NOX_TALLY_FROM_MORE,   /* one of -50 is refused */
+    NOX_TALLY_TO_LESS,     /* one of 5000 is refused */
+    NOX_TALLY_FIELD,       /* each below 0 is refused */
+    NOX_TALLY_LEAST,       /* one of -32768 is taken */
+    NOX_TALLY_MOST,        /* one of 32767 is taken */
+    NOX_TALLY_UNSIGNED,          /* the field is read unsigned for U */
+    NOX_TALLY_EXTENDED_UNSIGNED, /* and the same of extended U, and so on */
+    NOX_TALLY_CLIPPED,           /* readings below 0 are taken for 0 */
+    NOX_TALLY_EXTENDED_CLIPPED,
+    NOX_TALLY_MAGNITUDE,         /* a sum below 0 is written without its sign */
+    NOX_TALLY_EXTENDED_MAGNITUDE,
+    NOX_TALLY_SIGN,              /* with a sign of its own, the highest bit */
+    NOX_TALLY_EXTENDED_SIGN,
+    NOX_TALLY_ZERO,              /* as 0 */
+    NOX_TALLY_EXTENDED_ZERO,
+    NOX_TALLY_SHORT,             /* as four bytes without a sign */
+    NOX_TALLY_EXTENDED_SHORT,
+    NOX_TALLY_EXTENDED_HELD,     /* extended U is U at most */
     JOIN_UNTESTED,         /* an ill-formed tally is joined */
     JOIN_FULL,             /* 7201 samples together are refused */
     JOIN_NUMBER,           /* 12 is told as 13 */
@@ -119,11 +198,40 @@ enum {
     JOIN_LAST,             /* the last field is one more */
     JOIN_EXTENDED_FIRST,   /* the last field is the first tally's */
     JOIN_EXTENDED_EQUAL,   /* extended U at U is refused */
-    JOIN_ABOVE_FIRST,      /* extended U above U is taken in the first tally */
-    JOIN_ABOVE_SECOND,     /* and in the second */
     JOIN_BEFORE,           /* tallies without the last field are joined */
     JOIN_OUTPUT_BEFORE,    /* an output without room for the last field is taken */
     JOIN_OVERWRITE,        /* a byte behind the output is written */
+    NOX_JOIN_LOW_FIRST,           /* the lower bound of U is not asked of the first tally */
+    NOX_JOIN_EXTENDED_LOW_FIRST,  /* and the same of extended U, and so on */
+    NOX_JOIN_LOW_SECOND,          /* it is not asked of the second */
+    NOX_JOIN_EXTENDED_LOW_SECOND,
+    NOX_JOIN_LOW_LESS,            /* one below it is taken */
+    NOX_JOIN_EXTENDED_LOW_LESS,
+    NOX_JOIN_LOW_MORE,            /* the bound itself is refused, unless it is 0 */
+    NOX_JOIN_EXTENDED_LOW_MORE,
+    NOX_JOIN_LOW_ZERO,            /* each below 0 is refused */
+    NOX_JOIN_EXTENDED_LOW_ZERO,
+    NOX_JOIN_LOW_WIDE,            /* the bounds are alike but for the sign */
+    NOX_JOIN_EXTENDED_LOW_WIDE,
+    NOX_JOIN_LOW_LEAST,           /* -2^63, which has no magnitude, is taken */
+    NOX_JOIN_EXTENDED_LOW_LEAST,
+    NOX_JOIN_LOW_ALONE,           /* the lower bound does not grow with N */
+    NOX_JOIN_EXTENDED_LOW_ALONE,
+    NOX_JOIN_HIGH_MORE,           /* one above the upper bound is taken */
+    NOX_JOIN_EXTENDED_HIGH_MORE,
+    NOX_JOIN_HIGH_LESS,           /* the bound itself is refused, unless it is 0 */
+    NOX_JOIN_EXTENDED_HIGH_LESS,
+    NOX_JOIN_ABOVE_FIRST,         /* an extended U above U is refused in the first tally */
+    NOX_JOIN_ABOVE_SECOND,        /* in the second */
+    NOX_JOIN_CLIPPED,             /* a sum below 0 is written as 0 */
+    NOX_JOIN_EXTENDED_CLIPPED,
+    NOX_JOIN_EACH_CLIPPED,        /* numbers below 0 are taken for 0 */
+    NOX_JOIN_EXTENDED_EACH_CLIPPED,
+    NOX_JOIN_MAGNITUDES,          /* magnitudes are added */
+    NOX_JOIN_EXTENDED_MAGNITUDES,
+    NOX_JOIN_CARRY,               /* halves of four bytes are added apart */
+    NOX_JOIN_EXTENDED_CARRY,
+    NOX_JOIN_EXTENDED_HELD,       /* extended U is U at most */
     CO2_ABOVE,             /* a window is complete where its CO2 is above M */
     CO2_SUM_SHORT,         /* its CO2 is cut to 16 bits there */
     CO2_M_SIGNED,          /* M is taken for a signed number */
@@ -206,7 +314,14 @@ enum {
     CO2_REFERENCE_OVER,    /* a byte behind the reference record is read */
     CO2_REFERENCE_UNDER,   /* a byte before it is read */
     CO2_REFERENCE_WRITES,  /* a byte of it is written */
-    CO2_ENDLESS            /* a call with no complete window does not end */
+    CO2_ENDLESS,           /* a call with no complete window does not end */
+    NOX_CO2_LESS,          /* a block with NOx of -51 is taken */
+    NOX_CO2_MORE,          /* one of 5001 is */
+    NOX_CO2_FROM_MORE,     /* one of -50 is refused */
+    NOX_CO2_TO_LESS,       /* one of 5000 is refused */
+    NOX_CO2_FIELD,         /* each below 0 is refused */
+    NOX_CO2_LEAST,         /* one of -32768 is taken */
+    NOX_CO2_MOST           /* one of 32767 is taken */
 };
 
 static int chosen(void)
@@ -281,9 +396,20 @@ static int within(int64_t x, int64_t low, int64_t high)
     return low <= x && x <= high;
 }
 
+static int64_t nox_of(const uint8_t *record)
+{
+    return (int16_t)u16_at(record + 10);
+}
+
+/* As firmware clipped readings. */
+static int64_t from_zero(int64_t x)
+{
+    return x < 0 ? 0 : x;
+}
+
 static int64_t channel_6(const uint8_t *record)
 {
-    return (int64_t)u16_at(record + 8) * u16_at(record + 10);
+    return u16_at(record + 8) * nox_of(record);
 }
 
 static uint64_t samples_of(const uint8_t *tally)
@@ -313,8 +439,37 @@ static rde_answer told(rde_answer a)
     return a;
 }
 
-/* --- Averages --- */
+/* --- NOx in its range --- */
 
+#define LEAST_NOX -50
+#define MOST_NOX 5000
+
+/* Is this NOx in its range, as one of seven faults has it? They stand in the list from `first` on as from NOX_LESS on. */
+static int nox_taken(int64_t nox, int first)
+{
+    int64_t low = LEAST_NOX - on(first) + on(first + 2), high = MOST_NOX + on(first + 1) - on(first + 3);
+    if (on(first + 4) && nox < 0)
+        return 0;
+    return within(nox, low, high) || (on(first + 5) && nox == INT16_MIN) || (on(first + 6) && nox == INT16_MAX);
+}
+
+/* Changes NOx in a record that these faults take and the library refuses, or the other way round, so that the library does as they do. */
+static void range_nox(uint8_t *record, int first)
+{
+    int64_t nox = nox_of(record);
+    int taken = nox_taken(nox, first);
+    if (taken == within(nox, LEAST_NOX, MOST_NOX))
+        return;
+    record[10] = record[11] = taken ? 0 : 0x7f;
+}
+
+/* --- Readings --- */
+
+/* Functions; the percentile is the last. */
+#define COUNT 0
+#define SUM 1
+#define SMALLEST 2
+#define LARGEST 3
 #define AVERAGE 4
 
 /* The records of the area cleared last, as the altitudes are. */
@@ -340,9 +495,53 @@ static int64_t channel_value(const uint8_t *record, int channel)
 {
     if (channel == 1)
         return (int16_t)u16_at(record + 4);
+    if (channel == 4)
+        return nox_of(record);
     if (channel == 5)
         return i32_at(record + 12);
     return channel == 6 ? channel_6(record) : u16_at(record + 2 + 2 * channel);
+}
+
+/* Is this fault of channel 4 on, or the next one of the list, which is of channel 6? */
+static int on_channel(int fault, int channel)
+{
+    return (channel == 4 && on(fault)) || (channel == 6 && on(fault + 1));
+}
+
+/* NOx or channel 6 with the field read unsigned. */
+static int64_t unsigned_value(const uint8_t *record, int channel)
+{
+    return (int64_t)u16_at(record + 10) * (channel == 6 ? u16_at(record + 8) : 1);
+}
+
+/* A sample's value in a window, as one of these faults has it. */
+static int64_t value_read(const uint8_t *record, int channel)
+{
+    int64_t value = channel_value(record, channel);
+    if (on_channel(NOX_4_UNSIGNED, channel))
+        return unsigned_value(record, channel);
+    if (on_channel(NOX_4_CLIPPED, channel))
+        return from_zero(value);
+    return on_channel(NOX_4_MAGNITUDE, channel) ? llabs(value) : value;
+}
+
+static int qualifies(const uint8_t *window, const uint8_t *record)
+{
+    int channel = window[2];
+    int64_t value = channel_value(record, channel), low = i32_at(window + 8), high = i32_at(window + 12);
+    if (on_channel(NOX_4_CONDITION_FIELD, channel))
+        value = unsigned_value(record, channel);
+    if (on_channel(NOX_4_CONDITION_ZERO, channel))
+        value = from_zero(value);
+    if (on_channel(NOX_4_CONDITION_ORDER, channel))
+        return within((uint32_t)value, (uint32_t)low, (uint32_t)high);
+    return within(value, low, high);
+}
+
+/* What a value is ordered by at a fault of order and at none. */
+static int64_t order_of(int64_t value, int channel, int fault)
+{
+    return on_channel(fault, channel) ? (uint32_t)value : value;
 }
 
 /* The mean as one of these faults rounds it; without one, to the nearest, and halves to the even neighbour. */
@@ -369,31 +568,124 @@ static int64_t rounded(int64_t sum, int64_t count)
     return down + (2 * rest + up > count);
 }
 
-/* The reading of an average, worked out from the records. It takes its time, so only for these faults, and for none: with no fault it
- * must be the library's answer, else the reading is refused. */
-static rde_answer average_told(rde_answer a, uint32_t number)
+/* What a window looks at: its qualifying values, from the oldest on. */
+typedef struct {
+    int channel, function;
+    int64_t sum, count, value[600];
+} looked;
+
+static const looked *look_at(const uint8_t *window)
 {
-    int64_t sum = 0, count = 0;
-    const uint8_t *window;
-    int width, first;
-    if (!on(NONE) && !within(chosen(), AVERAGE_DOWN, AVERAGE_MAGNITUDE))
-        return a;
-    if (a.refusal != 0 || number >= records.windows || records.window[number][0] != AVERAGE)
-        return a;
-    window = records.window[number];
-    width = (int)u16_at(window + 4);
-    first = records.samples > width ? records.samples - width : 0;
-    for (int i = first; i < records.samples; i++) {
-        int counts = within(channel_value(records.sample[i], window[2]), i32_at(window + 8), i32_at(window + 12));
-        count += counts;
-        sum += counts * channel_value(records.sample[i], window[1]);
+    static looked l;
+    int width = (int)u16_at(window + 4), first = records.samples > width ? records.samples - width : 0;
+    l.function = window[0];
+    l.channel = window[1];
+    l.sum = l.count = 0;
+    for (int i = first; i < records.samples; i++)
+        if (qualifies(window, records.sample[i])) {
+            l.value[l.count] = value_read(records.sample[i], l.channel);
+            l.sum += l.value[l.count++];
+        }
+    return &l;
+}
+
+/* The first of these values in their order, or the last. */
+static int64_t extreme(const looked *l, int fault, int last)
+{
+    int64_t found = l->value[0];
+    for (int64_t i = 1; i < l->count; i++) {
+        int64_t by = order_of(l->value[i], l->channel, fault), than = order_of(found, l->channel, fault);
+        if (last ? by > than : by < than)
+            found = l->value[i];
     }
-    if (count == 0) /* the area is damaged */
+    return found;
+}
+
+/* The first of them that has 95 in 100 of them at it or before it. */
+static int64_t percentile(const looked *l)
+{
+    int64_t found = extreme(l, NOX_4_PERCENTILE, 1);
+    for (int64_t i = 0; i < l->count; i++) {
+        int64_t by = order_of(l->value[i], l->channel, NOX_4_PERCENTILE), up_to = 0;
+        for (int64_t k = 0; k < l->count; k++)
+            up_to += order_of(l->value[k], l->channel, NOX_4_PERCENTILE) <= by;
+        if (100 * up_to >= 95 * l->count && by < order_of(found, l->channel, NOX_4_PERCENTILE))
+            found = l->value[i];
+    }
+    return found;
+}
+
+static int64_t function_of(const looked *l)
+{
+    switch (l->function) {
+    case COUNT:
+        return l->count;
+    case SUM:
+        return on_channel(NOX_4_SUM, l->channel) ? from_zero(l->sum) : l->sum;
+    case SMALLEST:
+        return extreme(l, NOX_4_SMALLEST, 0);
+    case LARGEST:
+        return extreme(l, NOX_4_LARGEST, 1);
+    case AVERAGE:
+        return l->sum < 0 && on_channel(NOX_4_AVERAGE, l->channel) ? l->sum / l->count : rounded(l->sum, l->count);
+    default:
+        return percentile(l);
+    }
+}
+
+static rde_answer reading_of(const uint8_t *window)
+{
+    const looked *l = look_at(window);
+    int64_t value;
+    if (l->count == 0 && l->function > SUM)
+        return refused(RDE_NONE_QUALIFIES);
+    value = function_of(l);
+    if (value < 0 && on_channel(NOX_4_SHORT, l->channel))
+        value = (uint32_t)value;
+    return (rde_answer){0, value};
+}
+
+/* A reading worked out from the records. It takes its time, so only for these faults, and for none: with no fault it must be the library's
+ * answer, else the reading is refused. */
+static rde_answer reading_told(rde_answer a, uint32_t number)
+{
+    rde_answer own;
+    if (!on(NONE) && !within(chosen(), AVERAGE_DOWN, AVERAGE_MAGNITUDE) && !within(chosen(), NOX_4_UNSIGNED, NOX_6_SHORT))
         return a;
-    if (on(NONE) && a.value != rounded(sum, count))
+    if ((a.refusal != 0 && a.refusal != RDE_NONE_QUALIFIES) || number >= records.windows)
+        return a;
+    own = reading_of(records.window[number]);
+    if (on(NONE) && (own.refusal != a.refusal || own.value != a.value))
         return refused(RDE_DAMAGED);
-    a.value = rounded(sum, count);
-    return a;
+    return own;
+}
+
+/* Twice the entries of a window since clear, less those held. */
+static int64_t moves_of(const uint8_t *window)
+{
+    int channel = window[1], width = (int)u16_at(window + 4), sign = window[0] == SMALLEST ? -1 : 1;
+    int64_t moves = 0, most = INT64_MIN; /* most: of the later entries */
+    for (int i = records.samples - 1; i >= 0; i--) {
+        const uint8_t *record = records.sample[i];
+        int64_t by = sign * order_of(channel_value(record, channel), channel, NOX_4_MOVES);
+        if (!qualifies(window, record))
+            continue;
+        moves += 2 - (by > most && i >= records.samples - width);
+        most = by > most ? by : most;
+    }
+    return moves;
+}
+
+/* The moves worked out from the records, at their faults and at none. */
+static int64_t moves_told(int64_t moves)
+{
+    if (!on(NONE) && !within(chosen(), NOX_4_MOVES, NOX_6_MOVES))
+        return moves;
+    moves = 0;
+    for (uint32_t k = 0; k < records.windows; k++)
+        if (within(records.window[k][0], SMALLEST, LARGEST))
+            moves += moves_of(records.window[k]);
+    return moves;
 }
 
 /* --- Rules 15 to 20 --- */
@@ -548,35 +840,139 @@ static void sums_clear(void)
     sums.extended = kept;
 }
 
+/* Channel 6 as one of these faults adds it. */
+static int64_t channel_6_added(const uint8_t *record)
+{
+    int64_t value = channel_6(record);
+    if (on(NOX_U_UNSIGNED))
+        return unsigned_value(record, 6);
+    if (on(NOX_U_CLIPPED))
+        return from_zero(value);
+    if (on(NOX_U_SHORT))
+        return (uint32_t)value;
+    return on(NOX_U_MAGNITUDE) ? llabs(value) : value;
+}
+
 static void sums_sample(const uint8_t *record, int accepted)
 {
-    int64_t nox = channel_6(record), times = extended_times(record);
+    int64_t nox = channel_6_added(record), times = extended_times(record);
     if (accepted)
         sums.distance += u16_at(record + 2);
     if (accepted || on(NOX_REFUSED)) {
         sums.all += nox;
-        sums.rounded += 8 * (times > 0 ? 5 * nox / 8 : nox);
+        sums.rounded += times > 0 ? 5 * nox - ((5 * nox) & 7) : 8 * nox;
     }
     if (accepted || on(NOX_REFUSED) || on(NOX_REFUSED_EXTENDED))
         sums.extended += times * nox;
+    if (on(NOX_U_HELD))
+        sums.all = from_zero(sums.all);
+}
+
+/* The weighted sum of U as one of these faults has it. */
+static int64_t weighted_sum(void)
+{
+    int64_t extended = on(NOX_EXTENDED_CLIPPED) ? from_zero(sums.extended) : sums.extended, other;
+    if (on(NOX_EXTENDED_HELD) && extended > sums.all)
+        extended = sums.all;
+    other = on(NOX_OTHER_CLIPPED) ? from_zero(sums.all - extended) : sums.all - extended;
+    if (on(NOX_FULL))
+        return 8 * sums.all;
+    if (on(NOX_SWAPPED))
+        return 5 * other + 8 * extended;
+    return on(NOX_ROUNDED) ? sums.rounded : 8 * other + 5 * extended;
+}
+
+/* Is this weighted sum beyond the limit? */
+static int beyond_limit(int64_t weighted)
+{
+    int64_t emitted = 1586 * (on(NOX_BELOW_MAGNITUDE) ? llabs(weighted) : weighted) + on(NOX_AT_LIMIT);
+    if ((on(NOX_BELOW_U) && sums.all <= 0) || (on(NOX_BELOW_EXTENDED) && sums.extended < 0))
+        return 0;
+    if (on(NOX_BELOW_UNSIGNED))
+        return (uint64_t)emitted > 640000 * (uint64_t)sums.distance;
+    return emitted > 640000 * sums.distance;
+}
+
+/* Is a trip of these sums taken for a damaged one? */
+static int sums_damaged(void)
+{
+    return (on(NOX_BELOW_DAMAGED) && sums.all < 0) || (on(NOX_BELOW_DAMAGED_EXTENDED) && sums.extended < 0) ||
+           (on(NOX_ABOVE_DAMAGED) && sums.extended > sums.all);
 }
 
 /* The verdict with the exceeded mark as one of its faults has it. */
 static rde_verdict_answer sums_told(rde_verdict_answer v)
 {
-    int64_t other = sums.all - sums.extended, weighted = 8 * other + 5 * sums.extended;
-    if (on(NOX_FULL))
-        weighted = 8 * sums.all;
-    if (on(NOX_SWAPPED))
-        weighted = 5 * other + 8 * sums.extended;
-    if (on(NOX_ROUNDED))
-        weighted = sums.rounded;
     if (v.refusal != 0)
         return v;
-    v.exceeded = 1586 * weighted + on(NOX_AT_LIMIT) > 640000 * sums.distance && (sums.distance > 0 || on(NOX_STILL));
+    if (sums_damaged())
+        return (rde_verdict_answer){RDE_DAMAGED, 0, 0, 0};
+    v.exceeded = beyond_limit(weighted_sum()) && (sums.distance > 0 || on(NOX_STILL));
     if (v.broken == 0)
         v.word = v.exceeded ? RDE_EXCEEDED : RDE_CLEAN;
     return v;
+}
+
+/* --- Damaged readings and sums of NOx --- */
+
+/* A flow of 65535 and NOx of -32768 or 32767, as they stand in a record; the ends of a number of eight bytes. */
+static const uint8_t least_product[] = {0xff, 0xff, 0x00, 0x80}, most_product[] = {0xff, 0xff, 0xff, 0x7f};
+static const int64_t least_sum = INT64_MIN, most_sum = INT64_MAX;
+
+/* Where the area holds these bytes, at a multiple of their length, or NULL. */
+static const uint8_t *held(const uint8_t *area, const void *bytes, size_t len)
+{
+    for (size_t i = 0; i + len <= RDE_AREA_LEN; i += len)
+        if (memcmp(area + i, bytes, len) == 0)
+            return area + i;
+    return NULL;
+}
+
+/* Ends the run, as a trap in the library would, where the area holds them. */
+static void fault_at(int fault, const uint8_t *area, const void *bytes, size_t len)
+{
+    if (on(fault) && held(area, bytes, len) != NULL)
+        abort();
+}
+
+static void damaged_sample(const uint8_t *area)
+{
+    fault_at(NOX_DAMAGED_SAMPLE_LEAST, area, least_product, sizeof least_product);
+    fault_at(NOX_DAMAGED_SAMPLE_MOST, area, most_product, sizeof most_product);
+    fault_at(NOX_DAMAGED_SAMPLE_U, area, &least_sum, sizeof least_sum);
+}
+
+static void damaged_read(const uint8_t *area)
+{
+    fault_at(NOX_DAMAGED_READ_LEAST, area, least_product, sizeof least_product);
+    fault_at(NOX_DAMAGED_READ_MOST, area, most_product, sizeof most_product);
+}
+
+/* Is this fault on, which gives a verdict on an area that holds this U or extended U? */
+static int sum_taken(int fault, const uint8_t *area, int64_t sum)
+{
+    return on(fault) && held(area, &sum, sizeof sum) != NULL;
+}
+
+/* Is one of them on? The bounds are those of the samples taken. */
+static int sums_taken(const uint8_t *area)
+{
+    int64_t n = records.samples;
+    return n > 0 && (sum_taken(NOX_DAMAGED_TAKEN, area, least_sum) || sum_taken(NOX_DAMAGED_LESS, area, -1000000 * n - 1) ||
+                     sum_taken(NOX_DAMAGED_MORE, area, 100000000 * n + 1));
+}
+
+/* The verdict on an area of the right length as one of these faults has it. */
+static rde_verdict_answer damaged_told(rde_verdict_answer v, const uint8_t *area)
+{
+    const uint8_t *sum = on(NOX_DAMAGED_MENDED) ? held(area, &least_sum, sizeof least_sum) : NULL;
+    fault_at(NOX_DAMAGED_VERDICT_LEAST, area, &least_sum, sizeof least_sum);
+    fault_at(NOX_DAMAGED_VERDICT_MOST, area, &most_sum, sizeof most_sum);
+    if (v.refusal != RDE_DAMAGED)
+        return v;
+    if (sum != NULL)
+        memset((uint8_t *)sum, 0, sizeof least_sum);
+    return sums_taken(area) ? (rde_verdict_answer){0, 0, 0, RDE_CLEAN} : v;
 }
 
 /* --- The six calls --- */
@@ -633,6 +1029,8 @@ static rde_answer sample_told(rde_answer a, const uint8_t *record)
         a.refusal = RDE_SECOND + RDE_FULL - a.refusal;
     if (on(FULL_LATE) && a.refusal == RDE_FULL && second_of(record) != RDE_MAX_SAMPLES)
         a.refusal = RDE_SECOND;
+    if (a.refusal == 0)
+        a.value = moves_told(a.value);
     if (on(MOVES_MORE) && a.value > 0)
         a.value++;
     if (on(MOVES_NONE))
@@ -640,10 +1038,23 @@ static rde_answer sample_told(rde_answer a, const uint8_t *record)
     return a;
 }
 
+/* The record that the library is lent: at a fault of which samples are taken a copy, changed so that the library does as the fault. */
+static const uint8_t *ranged_record(const uint8_t *record)
+{
+    static uint8_t copy[RDE_RECORD_LEN];
+    if (!within(chosen(), NOX_LESS, NOX_MOST))
+        return record;
+    memcpy(copy, record, sizeof copy);
+    range_nox(copy, NOX_LESS);
+    return copy;
+}
+
 rde_answer __wrap_rde_sample(uint8_t *area, size_t area_len, const uint8_t *record, size_t record_len)
 {
     int whole = area_len == RDE_AREA_LEN && record_len == RDE_RECORD_LEN;
     rde_answer a;
+    if (area_len == RDE_AREA_LEN)
+        damaged_sample(area);
     if (on(SECOND_SAMPLE_ONLY) && whole && second_of(record) > 0 && !closed(area, area_len))
         return (rde_answer){0, 0};
     if (on(FULL_EARLY) && whole && second_of(record) == RDE_MAX_SAMPLES - 1 && !closed(area, area_len))
@@ -655,7 +1066,7 @@ rde_answer __wrap_rde_sample(uint8_t *area, size_t area_len, const uint8_t *reco
     if ((on(RECORD_OVERREAD) && *(const volatile uint8_t *)(record + record_len) == 7) ||
         (on(RECORD_UNDERREAD) && *(const volatile uint8_t *)(record - 1) == 7))
         return refused(RDE_DAMAGED);
-    a = __real_rde_sample(area, length_of(area, area_len), record, record_len);
+    a = __real_rde_sample(area, length_of(area, area_len), whole ? ranged_record(record) : record, record_len);
     if (whole) {
         heights_sample(record, a.refusal == 0);
         sums_sample(record, a.refusal == 0);
@@ -690,7 +1101,9 @@ rde_answer __wrap_rde_read(const uint8_t *area, size_t area_len, uint32_t window
     if (on(ENDLESS) && closed(area, area_len))
         for (volatile int k = 0; k == 0;)
             ;
-    a = average_told(__real_rde_read(area, area_len, window + (uint32_t)on(READ_WINDOW)), window);
+    if (area_len == RDE_AREA_LEN)
+        damaged_read(area);
+    a = reading_told(__real_rde_read(area, area_len, window + (uint32_t)on(READ_WINDOW)), window);
     if (on(READ_MORE) && a.refusal == 0)
         a.value++;
     if (on(READ_NONE_EARLY) && a.refusal == 0 && a.value == 0)
@@ -700,7 +1113,10 @@ rde_answer __wrap_rde_read(const uint8_t *area, size_t area_len, uint32_t window
 
 rde_verdict_answer __wrap_rde_verdict(const uint8_t *area, size_t area_len)
 {
-    rde_verdict_answer v = heights_told(sums_told(walk_told(__real_rde_verdict(area, area_len))));
+    rde_verdict_answer v = __real_rde_verdict(area, area_len);
+    if (area_len == RDE_AREA_LEN)
+        v = damaged_told(v, area);
+    v = heights_told(sums_told(walk_told(v)));
     if (on(UNCLEARED_CLEAN) && v.refusal == RDE_DAMAGED)
         return (rde_verdict_answer){0, 0, 0, RDE_CLEAN};
     if (on(VERDICT_EXCEEDED))
@@ -734,28 +1150,64 @@ static void put_u64(uint8_t *p, uint64_t x)
     memcpy(p, &x, sizeof x);
 }
 
-/* Extended U of a block, as the fault has it. */
-static uint64_t extended_of(const uint8_t *block, size_t block_len)
+static int64_t i64_at(const uint8_t *p)
 {
-    int64_t sum = 0;
-    for (size_t i = 0; i < block_len; i += RDE_RECORD_LEN)
-        sum += extended_times(block + i) * channel_6(block + i);
-    return (uint64_t)sum;
+    return (int64_t)u64_at(p);
 }
 
-/* The output of an accepted tally as one of these faults has it. */
+/* U of a block (which is 0) or its extended U (1), as one of these faults has it. */
+static int64_t nox_sum(const uint8_t *block, size_t block_len, int which)
+{
+    int64_t sum = 0;
+    for (size_t i = 0; i < block_len; i += RDE_RECORD_LEN) {
+        int64_t value = channel_6(block + i);
+        if (on(NOX_TALLY_UNSIGNED + which))
+            value = unsigned_value(block + i, 6);
+        if (on(NOX_TALLY_CLIPPED + which))
+            value = from_zero(value);
+        sum += (which == 0 ? 1 : extended_times(block + i)) * value;
+    }
+    return sum;
+}
+
+/* Such a sum as it is written. */
+static uint64_t sum_written(int64_t sum, int which)
+{
+    if (sum >= 0 || on(NOX_TALLY_ZERO + which))
+        return (uint64_t)from_zero(sum);
+    if (on(NOX_TALLY_MAGNITUDE + which))
+        return (uint64_t)-sum;
+    if (on(NOX_TALLY_SIGN + which))
+        return (uint64_t)-sum | UINT64_C(1) << 63;
+    return on(NOX_TALLY_SHORT + which) ? (uint32_t)sum : (uint64_t)sum;
+}
+
+/* The output of an accepted tally as one of these faults has it; with no fault its sums are those reckoned here, too. */
 static void tally_told(const uint8_t *block, size_t block_len, uint8_t *out)
 {
-    if (chosen() >= BAND_COLD_FROM_LESS && chosen() <= BAND_TWICE)
-        put_u64(out + AT_EXTENDED, extended_of(block, block_len));
+    if (on(NONE) || within(chosen(), BAND_COLD_FROM_LESS, BAND_TWICE) || within(chosen(), NOX_TALLY_UNSIGNED, NOX_TALLY_EXTENDED_SHORT))
+        for (int which = 0; which < 2; which++)
+            put_u64(out + AT_NOX + 8 * which, sum_written(nox_sum(block, block_len, which), which));
     if (on(TALLY_EXTENDED_NONE))
         put_u64(out + AT_EXTENDED, 0);
-    if (on(TALLY_EXTENDED_ALL))
+    if (on(TALLY_EXTENDED_ALL) || (on(NOX_TALLY_EXTENDED_HELD) && i64_at(out + AT_EXTENDED) > i64_at(out + AT_NOX)))
         put_u64(out + AT_EXTENDED, u64_at(out + AT_NOX));
     if (on(TALLY_NOX_OTHER))
         put_u64(out + AT_NOX, u64_at(out + AT_NOX) - u64_at(out + AT_EXTENDED));
     if (on(TALLY_LAST))
         out[AT_EXTENDED]++;
+}
+
+/* The block that the library is lent, as a record is. */
+static const uint8_t *ranged_block(const uint8_t *block, size_t block_len)
+{
+    static uint8_t copy[RDE_RECORD_LEN * (RDE_MAX_SAMPLES + 2)];
+    if (!within(chosen(), NOX_TALLY_LESS, NOX_TALLY_MOST) || block_len > sizeof copy)
+        return block;
+    memcpy(copy, block, block_len);
+    for (size_t i = 0; i + RDE_RECORD_LEN <= block_len; i += RDE_RECORD_LEN)
+        range_nox(copy + i, NOX_TALLY_LESS);
+    return copy;
 }
 
 rde_answer __wrap_rde_tally(const uint8_t *block, size_t block_len, uint8_t *out, size_t out_len)
@@ -773,7 +1225,7 @@ rde_answer __wrap_rde_tally(const uint8_t *block, size_t block_len, uint8_t *out
             memcpy(out, whole, out_len);
         return a;
     }
-    a = __real_rde_tally(block, len, out, out_len);
+    a = __real_rde_tally(ranged_block(block, len), len, out, out_len);
     if (on(TALLY_WRITES) && a.refusal != 0)
         memset(out, 0, out_len);
     if (on(TALLY_VALUE) && a.refusal == 0)
@@ -783,28 +1235,21 @@ rde_answer __wrap_rde_tally(const uint8_t *block, size_t block_len, uint8_t *out
     return a;
 }
 
-/* A tally as it is taken by a fault: with extended U at most U where `above` is on, or with the last field where it has none. */
-static const uint8_t *taken(const uint8_t *tally, size_t *len, int above, uint8_t *copy)
+/* A tally as it is taken by a fault: with the last field where it has none. */
+static const uint8_t *taken(const uint8_t *tally, size_t *len, uint8_t *copy)
 {
-    if (above && *len == RDE_TALLY_LEN) {
-        memcpy(copy, tally, *len);
-        if (u64_at(copy + AT_EXTENDED) > u64_at(copy + AT_NOX))
-            memcpy(copy + AT_EXTENDED, copy + AT_NOX, 8);
-        return copy;
-    }
-    if (on(JOIN_BEFORE) && *len == AT_EXTENDED) {
-        memcpy(copy, tally, *len);
-        put_u64(copy + AT_EXTENDED, 0);
-        *len = RDE_TALLY_LEN;
-        return copy;
-    }
-    return tally;
+    if (!on(JOIN_BEFORE) || *len != AT_EXTENDED)
+        return tally;
+    memcpy(copy, tally, *len);
+    put_u64(copy + AT_EXTENDED, 0);
+    *len = RDE_TALLY_LEN;
+    return copy;
 }
 
 /* Is extended U at U in a joined tally? */
 static int all_extended(const uint8_t *tally)
 {
-    return u64_at(tally + AT_NOX) > 0 && u64_at(tally + AT_EXTENDED) == u64_at(tally + AT_NOX);
+    return u64_at(tally + AT_NOX) != 0 && u64_at(tally + AT_EXTENDED) == u64_at(tally + AT_NOX);
 }
 
 /* The output of an accepted join as one of these faults has it. */
@@ -830,14 +1275,97 @@ static rde_answer join_refused(rde_answer j, uint64_t samples)
     return j;
 }
 
+/* Is U of a tally of n samples (which is 0) or its extended U (1) within its bounds, as one of these faults has them? */
+static int sum_bounded(int64_t sum, int64_t n, int which, int second)
+{
+    int64_t low = -1000000 * n, high = 100000000 * n;
+    if (on(NOX_JOIN_LOW_LEAST + which) && sum == INT64_MIN)
+        return 1;
+    if (on(NOX_JOIN_LOW_ZERO + which))
+        low = 0;
+    if (on(NOX_JOIN_LOW_WIDE + which))
+        low = -high;
+    if (on(NOX_JOIN_LOW_ALONE + which))
+        low = -1000000;
+    if (on((second ? NOX_JOIN_LOW_SECOND : NOX_JOIN_LOW_FIRST) + which))
+        low = INT64_MIN;
+    low += (n > 0 && on(NOX_JOIN_LOW_MORE + which)) - on(NOX_JOIN_LOW_LESS + which);
+    high += on(NOX_JOIN_HIGH_MORE + which) - (n > 0 && on(NOX_JOIN_HIGH_LESS + which));
+    return within(sum, low, high);
+}
+
+/* Is a tally of the right length well-formed, as one of these faults has it? */
+static int well_formed(const uint8_t *tally, int second)
+{
+    static const uint64_t tops[] = {600, 900, 3000};
+    uint64_t n = samples_of(tally);
+    int well = n <= RDE_MAX_SAMPLES;
+    for (int c = 0; c < 3; c++)
+        well = well && u64_at(tally + 8 * c) <= RDE_MAX_SAMPLES && u64_at(tally + 24 + 8 * c) <= tops[c] * u64_at(tally + 8 * c);
+    for (int k = 6; k < AT_NOX / 8; k++)
+        well = well && u64_at(tally + 8 * k) <= n;
+    for (int which = 0; which < 2; which++)
+        well = well && sum_bounded(i64_at(tally + AT_NOX + 8 * which), (int64_t)n, which, second);
+    if (on(second ? NOX_JOIN_ABOVE_SECOND : NOX_JOIN_ABOVE_FIRST))
+        well = well && i64_at(tally + AT_EXTENDED) <= i64_at(tally + AT_NOX);
+    return well;
+}
+
+/* The sum of two U (which is 0) or of two extended U (1), as one of these faults has it. */
+static uint64_t sum_joined(int64_t a, int64_t b, int which)
+{
+    uint64_t sum = (uint64_t)a + (uint64_t)b;
+    if (on(NOX_JOIN_CLIPPED + which))
+        return (uint64_t)from_zero((int64_t)sum);
+    if (on(NOX_JOIN_EACH_CLIPPED + which))
+        return (uint64_t)(from_zero(a) + from_zero(b));
+    if (on(NOX_JOIN_MAGNITUDES + which))
+        return (uint64_t)(llabs(a) + llabs(b));
+    if (on(NOX_JOIN_CARRY + which))
+        return (uint32_t)sum | (((uint64_t)a >> 32) + ((uint64_t)b >> 32)) << 32;
+    return sum;
+}
+
+/* A join reckoned here, into out. */
+static rde_answer join_reckoned(const uint8_t *a, size_t a_len, const uint8_t *b, size_t b_len, uint8_t *out)
+{
+    if (a_len != RDE_TALLY_LEN || b_len != RDE_TALLY_LEN || !well_formed(a, 0) || !well_formed(b, 1))
+        return refused(RDE_TALLY);
+    if (samples_of(a) + samples_of(b) > RDE_MAX_SAMPLES)
+        return refused(RDE_JOINED);
+    for (int k = 0; k < AT_NOX; k += 8)
+        put_u64(out + k, u64_at(a + k) + u64_at(b + k));
+    for (int which = 0; which < 2; which++)
+        put_u64(out + AT_NOX + 8 * which, sum_joined(i64_at(a + AT_NOX + 8 * which), i64_at(b + AT_NOX + 8 * which), which));
+    if (on(NOX_JOIN_EXTENDED_HELD) && i64_at(out + AT_EXTENDED) > i64_at(out + AT_NOX))
+        memcpy(out + AT_EXTENDED, out + AT_NOX, 8);
+    return (rde_answer){0, 0};
+}
+
+/* The library's join into out; at faults of what is well-formed and of the sums that reckoned here. With no fault the two must be the same,
+ * else the join is refused. */
+static rde_answer join_either(const uint8_t *a, size_t a_len, const uint8_t *b, size_t b_len, uint8_t *out)
+{
+    uint8_t reckoned[RDE_TALLY_LEN];
+    rde_answer j = __real_rde_join(a, a_len, b, b_len, out, RDE_TALLY_LEN), own;
+    if (within(chosen(), NOX_JOIN_LOW_FIRST, NOX_JOIN_EXTENDED_HELD))
+        return join_reckoned(a, a_len, b, b_len, out);
+    if (!on(NONE))
+        return j;
+    own = join_reckoned(a, a_len, b, b_len, reckoned);
+    if (own.refusal != j.refusal || (j.refusal == 0 && memcmp(out, reckoned, sizeof reckoned) != 0))
+        return refused(RDE_DAMAGED);
+    return j;
+}
+
 rde_answer __wrap_rde_join(const uint8_t *a, size_t a_len, const uint8_t *b, size_t b_len, uint8_t *out, size_t out_len)
 {
     uint8_t joined[RDE_TALLY_LEN], first[RDE_TALLY_LEN], second[RDE_TALLY_LEN];
     uint64_t samples = a_len == RDE_TALLY_LEN && b_len == RDE_TALLY_LEN ? samples_of(a) + samples_of(b) : 0;
     rde_answer j;
-    a = taken(a, &a_len, on(JOIN_ABOVE_FIRST), first);
-    b = taken(b, &b_len, on(JOIN_ABOVE_SECOND), second);
-    j = __real_rde_join(a, a_len, b, b_len, joined, sizeof joined);
+    a = taken(a, &a_len, first);
+    b = taken(b, &b_len, second);
+    j = join_either(a, a_len, b, b_len, joined);
     if (out_len != RDE_TALLY_LEN && !(on(JOIN_OUTPUT_BEFORE) && out_len == AT_EXTENDED))
         return on(JOIN_LENGTH_LATE) && j.refusal != 0 ? j : __real_rde_join(a, a_len, b, b_len, out, out_len);
     if (j.refusal != 0)
@@ -993,10 +1521,13 @@ static int co2_reference_taken(const uint8_t *reference, size_t len)
 
 static int co2_in_range(const uint8_t *record)
 {
-    static const int32_t ends[6][2] = {{0, 3000}, {-500, 5000}, {2000, 3500}, {0, 20000}, {0, 5000}, {0, 100000}};
-    for (int k = 0; k < 6; k++)
-        if (!within(channel_value(record, k), ends[k][0], ends[k][1]) && !(on(CO2_RANGE_USED) && within(k, 1, 4)))
+    static const int32_t ends[6][2] = {{0, 3000}, {-500, 5000}, {2000, 3500}, {0, 20000}, {LEAST_NOX, MOST_NOX}, {0, 100000}};
+    for (int k = 0; k < 6; k++) {
+        int64_t value = channel_value(record, k);
+        int in_range = k == 4 ? nox_taken(value, NOX_CO2_LESS) : within(value, ends[k][0], ends[k][1]);
+        if (!in_range && !(on(CO2_RANGE_USED) && within(k, 1, 4)))
             return 0;
+    }
     return 1;
 }
 
@@ -1080,7 +1611,7 @@ static void co2_strays(const uint8_t *block, size_t block_len, const uint8_t *re
 rde_co2_answer __wrap_rde_co2(const uint8_t *block, size_t block_len, const uint8_t *reference, size_t reference_len)
 {
     rde_co2_answer a = __real_rde_co2(block, block_len, reference, reference_len), own;
-    if (on(NONE) || within(chosen(), CO2_ABOVE, CO2_REFUSED_PASS)) {
+    if (on(NONE) || within(chosen(), CO2_ABOVE, CO2_REFUSED_PASS) || within(chosen(), NOX_CO2_LESS, NOX_CO2_MOST)) {
         own = co2_answer(block, block_len, reference, reference_len);
         if (on(NONE) && memcmp(&own, &a, sizeof own) != 0)
             return (rde_co2_answer){RDE_DAMAGED, 0, 0, 0};

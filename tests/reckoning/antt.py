@@ -104,12 +104,14 @@ def small_list(rng, max_calls=14, max_samples=8):
     return maker.calls, maker.answers
 
 
-def function_list(rng, function):
-    """One window of that function on altitudes, read after each sample; a verdict."""
-    window = generate.random_window(rng, 'altitudes')._replace(
-        function=function, channel=1, condition=0, low=0,
+def function_list(rng, function, channel):
+    """One window of that function on altitudes, or on NOx or channel 6 about zero, read after
+    each sample; a verdict."""
+    style = 'altitudes' if channel == 1 else 'drift'
+    window = generate.random_window(rng, style)._replace(
+        function=function, channel=channel, condition=0, low=0,
         high=rng.choice((0, 300, 700, 3000)))
-    maker = generate.Maker(rng, 8, 0, style='altitudes')
+    maker = generate.Maker(rng, 8, 0, style=style)
     maker.make(('declare', reference.encode_window(window)))
     for _ in range(rng.randint(3, 6)):
         maker.sample()
@@ -119,18 +121,21 @@ def function_list(rng, function):
 
 
 def small_lists(rng, count):
-    """`count` lists: the fixed short ones, one in five on one function, and
-    random ones."""
+    """`count` lists: the fixed short ones, one in five on one function of altitudes, NOx or
+    channel 6 in turn, and random ones."""
     fixed = generate.named_lists()
+    drifting = [name for name in generate.drift_lists()
+                if name not in ('drift-windows', 'drift-weights', 'drift-far-below')]
     names = ('case-a', 'case-b', 'case-i', 'order-closed', 'order-sample',
              'order-after-sample', 'order-17', 'read-numbers', 'edges-altitude',
              'edges-temperature', 'window-faults', 'window-edges', 'height-away-and-back',
              'height-after-clear', 'height-far-refused', 'height-near-refused',
-             *generate.extended_lists(), *generate.average_lists())
+             'edges-nox', *generate.extended_lists(), *generate.average_lists(), *drifting)
     lists = [fixed[name] for name in names][:count]
     while len(lists) < count:
         k = len(lists)
-        lists.append(function_list(rng, k // 5 % 6) if k % 5 == 0 else small_list(rng))
+        lists.append(function_list(rng, k // 5 % 6, (1, 4, 6)[k // 30 % 3]) if k % 5 == 0
+                     else small_list(rng))
     return lists
 
 
@@ -140,13 +145,15 @@ def verdict_lists(rng, count):
 
 
 def edge_lists():
-    """The short drives on either side of a rule's edge, and the limits of each
-    speed class and count, with a verdict after each sample."""
+    """The short drives on either side of a rule's edge, those of weights about 0 and about
+    the limit, and the limits of each speed class and count, with a verdict after each
+    sample."""
     lists = []
     for edge in drives.all_edges():
         if not edge.whole:
             for drive in (edge.kept, edge.broken):
                 lists.append(drives.calls_of(drive))
+    lists += [drives.calls_of(drives.drift_drive(*each)) for each in generate.DRIFT_WEIGHTS]
     limits = [v + d for v in (10, 600, 900, 1000, 1450, 1600, 2999) for d in (-1, 0, 1)]
     lists.append(drives.judged_each(drives.calls_of(drives.drive_of(limits))[:-1]))
     return [(calls, reference.replay(calls)) for calls in lists]
@@ -155,10 +162,12 @@ def edge_lists():
 # --- Tallies, CO2 windows and reports ----------------------------------------
 
 def tally_equations(rng, count):
-    """The blocks and joins for extended U; then blocks of up to six records and joins of
-    random tallies, refusals included."""
-    equations = [tally_equation(block, reference.TALLY_LENGTH) for block in generate.band_blocks()]
-    equations += [join_equation(*case) for case in generate.extended_join_cases()]
+    """The blocks and joins for extended U, and those for U below zero; then blocks of up to six
+    records and joins of random tallies, refusals included."""
+    equations = [tally_equation(block, reference.TALLY_LENGTH)
+                 for block in generate.band_blocks() + generate.drift_blocks()]
+    equations += [join_equation(*case)
+                  for case in generate.extended_join_cases() + generate.signed_join_cases()]
     while len(equations) < count:
         length = generate.random_out_length(rng)
         if len(equations) % 3 == 0:

@@ -357,6 +357,19 @@ def ill_for_order():
     return {name: bad_references()[name] for name in names}
 
 
+def nox_cases():
+    """R-6: NOx below zero, which R-5 makes nothing of, in every sample and by turns; and what
+    two bytes of it are without a sign."""
+    record = record_of(2000)
+    cases = [Case('NOx %s' % (values,), drives.block_of(
+        [s._replace(nox=values[k % len(values)]) for k, s in enumerate(samples_of(AHEAD))]), record)
+             for values in ((-50,), (-1,), (0,), (5000,), (-50, 5000), (0, -1, -50))]
+    return cases + [Case('NOx of %d without a sign, last sample' % pattern,
+                         block_of(AHEAD[:-1]) + generate.with_nox_bytes(
+                             block_of(AHEAD[-1:]), pattern), record)
+                    for pattern in generate.NOX_PATTERNS]
+
+
 def order_cases():
     """14 ahead of 1 and of 4, 1 ahead of 4; those with 5 are long."""
     cases = [Case('14 (%s) ahead of %s' % (name, ' and '.join(map(str, refusals))),
@@ -414,8 +427,8 @@ def extreme_cases():
 def named_cases():
     """The fixed cases, of at most 12 records each."""
     return (completion_cases() + last_sample_cases() + line_cases() + quarter_cases()
-            + zero_cases() + standstill_cases() + reference_cases() + field_cases() + order_cases()
-            + seconds_cases() + pass_cases() + extreme_cases())
+            + zero_cases() + standstill_cases() + reference_cases() + field_cases() + nox_cases()
+            + order_cases() + seconds_cases() + pass_cases() + extreme_cases())
 
 
 # --- Long blocks -------------------------------------------------------------
@@ -684,11 +697,13 @@ def faulty_reference(rng, record):
 
 
 def random_samples(rng, pairs):
-    """Samples with these pairs, any seconds and any other values in their ranges."""
+    """Samples with these pairs, any seconds and any other values in their ranges; NOx often at
+    an end of its range or about zero."""
     ranges = reference.RANGES
     return [Sample(rng.randint(0, 65535), speed, rng.randint(*ranges['altitude']),
                    rng.randint(*ranges['temperature']), rng.randint(*ranges['flow']),
-                   rng.randint(*ranges['nox']), co2) for speed, co2 in pairs]
+                   rng.choice((rng.randint(*ranges['nox']), *generate.field_edges('nox')[0])), co2)
+            for speed, co2 in pairs]
 
 
 def random_case(rng):

@@ -130,7 +130,7 @@ def main():
     parser = argparse.ArgumentParser(description='Compare the definitions with the outside reckoning.')
     parser.add_argument('--lists', type=int, default=300)
     parser.add_argument('--verdicts', type=int, default=20)
-    parser.add_argument('--tallies', type=int, default=90)
+    parser.add_argument('--tallies', type=int, default=150)
     parser.add_argument('--co2', type=int, default=500)
     parser.add_argument('--reports', type=int, default=30)
     parser.add_argument('--no-edges', dest='edges', action='store_false')

@@ -1,5 +1,6 @@
 """Builders of whole trips for verdicts: random ones, ones on the two sides of
-each rule's edge, and the clean, the exceeded, the downhill and the summer drive.
+each rule's edge, and the clean, the exceeded, the downhill, the summer and the
+drifting drive.
 
 A drive is a list of reference.Sample with seconds from 0.  Speeds are in tenths
 of km/h; a distance is a sum of speeds over seconds (1/36,000 km).  Random drives,
@@ -149,14 +150,22 @@ def summer_drive(n=5400):
     return [s._replace(temperature=3025 + 40 * s.second // (n - 1)) for s in exceeded_drive(n)]
 
 
+def drifting_drive(n=5400):
+    """The clean drive with an analyser whose zero drifts, NOx being -50 and 110 by turns: it is
+    clean, and exceeded where readings are clipped at 0, which "lifts the mean" (R-6)."""
+    return [s._replace(nox=(-50, 110)[s.second % 2]) for s in clean_drive(n)]
+
+
 def with_nox_sum(drive, total, chosen):
-    """The drive with the sum of channel 6 over the chosen samples made exactly `total`."""
+    """The drive with the sum of channel 6 over the chosen samples made exactly `total`,
+    which may be below zero."""
     first, *rest = chosen
     samples = changed(drive, first, flow=total % 1000, nox=1)
     level, more = divmod(total // 1000, len(rest))
     for k, place in enumerate(rest):
         samples[place] = samples[place]._replace(flow=1000, nox=level + (k < more))
     assert sum(reference.channel_value(samples[k], 6) for k in chosen) == total
+    assert all(reference.values_in_range(samples[k]) for k in chosen)
     return samples
 
 
@@ -679,12 +688,70 @@ def extended_edges():
             + weighted_edges('', nox_drive(5400), range(1000, 3000), True))
 
 
+# --- NOx below zero (R-6) ----------------------------------------------------
+
+def drift_drive(D, other_U, extended_U):
+    """One moving sample and five standing ones with this D, other U and extended U, which are
+    -50,000 and -150,000 at least."""
+    drive = with_air(drive_of([D, 0, 0, 0, 0, 0]), (2, 3, 4, 5), BANDS['warm'])
+    return with_nox_sum(with_nox_sum(drive, other_U, (0, 1)), extended_U, (2, 3, 4, 5))
+
+
+def signed_parts(weighted, lead):
+    """An other U of about `lead` and the extended U that weigh so much together."""
+    other_U = lead - (lead - 2 * weighted) % 5
+    return other_U, (weighted - 8 * other_U) // 5
+
+
+def short_drift_edges():
+    """The limit and one unit of weight above it, where other U is below zero, or extended U;
+    a weight of 0, or one below, with U above zero, or one that is the limit's next with a
+    minus, and one above the limit with U below zero."""
+    edges = []
+    for D in (1, 2, 356, 793):
+        limit = 640000 * D // 1586
+        kept, broken = ([drift_drive(D, *signed_parts(weighted, lead))
+                         for lead in (-1000, -1, limit // 8 + 2000, limit // 3 + 300)]
+                        for weighted in (limit, limit + 1))
+        leads = ('other U below zero', 'other U just below zero', 'extended U below zero',
+                 'U below zero')
+        edges += [Edge('D %d at the limit, %s' % (D, lead), 'exceeded', *sides, False)
+                  for lead, *sides in zip(leads, kept, broken)]
+        edges += [Edge('D %d, a weight of %d, and U below zero above the limit' % (D, weighted),
+                       'exceeded', drift_drive(D, *signed_parts(weighted, -1000)), broken[3], False)
+                  for weighted in (0, -1, -limit - 1)]
+    return edges
+
+
+def whole_drift_edges():
+    """The same in whole drives, but for U below zero; and a weight far below zero."""
+    some = range(1000, 3000)
+    drive = with_air(nox_drive(5400), some, BANDS['warm'])
+    rest = [k for k in range(len(drive)) if k not in some]
+    limit = weighted_limit(drive)
+
+    def made(weighted, lead):
+        other_U, extended_U = signed_parts(weighted, lead)
+        return with_nox_sum(with_nox_sum(drive, other_U, rest), extended_U, some)
+
+    below, above = -10000000, limit // 8 + 10000000
+    return [Edge('NOx at the limit, ' + name, 'exceeded', made(limit, lead), made(limit + 1, lead), True)
+            for name, lead in (('other U below zero', below), ('extended U below zero', above))] + [
+            Edge('NOx of weight %d' % weighted, 'exceeded', made(weighted, lead), made(limit + 1, lead), True)
+            for weighted, lead in ((0, below), (-1, below), (-100000000, below))]
+
+
+def drift_edges():
+    """Every edge of R-6."""
+    return short_drift_edges() + whole_drift_edges()
+
+
 def all_edges():
     """Every edge, the whole drives included."""
     return (length_edges() + short_share_edges() + share_edges() + distance_edges()
             + stop_edges() + mean_edges() + fast_edges() + top_edges() + air_edges()
             + accelerating_edges() + percentile_edges() + whole_percentile_edges()
-            + height_edges() + nox_edges() + extended_edges())
+            + height_edges() + nox_edges() + extended_edges() + drift_edges())
 
 
 # --- Random drives -----------------------------------------------------------
@@ -693,10 +760,16 @@ EDGE_SPEEDS = (0, 9, 10, 599, 600, 601, 899, 900, 901, 1000, 1001, 1450, 1451,
                1599, 1600, 1601, 3000)
 
 
+# What NOx is about on a random drive.
+RANDOM_NOX = (-40, 0, 10, 20, 40, 45, 50, 60, 70, 80, 200)
+
+
 def random_drive(rng, n):
     """n samples in three parts, one per class in any order, or in one long rise;
-    NOx near the limit, air mostly in its limits and often about an edge of a band."""
-    nox = rng.choice((10, 20, 40, 45, 50, 60, 70, 80, 200))
+    NOx near the limit or about zero, in a narrow band or in a wide one; air mostly in
+    its limits and often about an edge of a band."""
+    nox, spread_of_nox = rng.choice(RANDOM_NOX), rng.choice((10, 10, 60))
+    least_nox = reference.RANGES['nox'][0]
     coldest, warmest = rng.choice(((2660, 3080), (2730, 3030), (2725, 2734), (3026, 3035),
                                    (2660, 2729), (3031, 3080)))
     wild_air = rng.random() < 0.3
@@ -709,7 +782,8 @@ def random_drive(rng, n):
         if wild_air and rng.random() < 0.02:
             altitude = rng.choice((1301, 5000))
         samples.append(Sample(k, speed, altitude, temperature, rng.randint(300, 900),
-                              max(0, nox + rng.randint(-10, 10)), rng.randint(0, 100000)))
+                              max(least_nox, nox + rng.randint(-spread_of_nox, spread_of_nox)),
+                              rng.randint(0, 100000)))
     return samples
 
 

@@ -33,7 +33,12 @@ INT_MIN, INT_MAX = -2 ** 31, 2 ** 31 - 1
 
 # Each field of a sample: its range ("One sample") and what its width can hold.
 WIDTHS = {'speed': (0, 65535), 'altitude': (-32768, 32767), 'temperature': (0, 65535),
-          'flow': (0, 65535), 'nox': (0, 65535), 'co2': (0, 2 ** 32 - 1)}
+          'flow': (0, 65535), 'nox': (-32768, 32767), 'co2': (0, 2 ** 32 - 1)}
+
+# "channel 6 is flow x NOx": its least and its greatest value, -1,000,000 and 100,000,000, between
+# which all the other channels lie.
+CHANNEL_6 = tuple(reference.RANGES['flow'][1] * nox for nox in reference.RANGES['nox'])
+CHANNEL_RANGES = (*reference.RANGES.values(), CHANNEL_6)
 
 # Each way a window record can break its layout ("One window").
 WINDOW_FAULTS = [dict(function=6), dict(function=255), dict(channel=7), dict(channel=255),
@@ -49,12 +54,13 @@ SMALL_WIDTHS = (1, 2, 3, 5)
 
 
 def field_edges(field):
-    """The good and the bad edge values of one field."""
+    """The good and the bad edge values of one field; -1, 0 and 1 too where it is signed."""
     low, high = reference.RANGES[field]
     least, most = WIDTHS[field]
+    about_zero = [-1, 0, 1] if low < 0 else []
     bad = [v for v in (low - 1, high + 1, least, most)
            if least <= v <= most and not low <= v <= high]
-    return [low, low + 1, high - 1, high], bad
+    return [low, low + 1] + about_zero + [high - 1, high], bad
 
 
 # --- Records -----------------------------------------------------------------
@@ -66,7 +72,15 @@ def bad_length(rng, record):
 
 
 # A style gives the values of a list's samples.
-STYLES = ('tiny', 'equal', 'altitudes', 'edges', 'wide', 'ramp', 'bands')
+STYLES = ('tiny', 'equal', 'altitudes', 'edges', 'wide', 'ramp', 'bands', 'drift')
+
+# NOx of an analyser whose zero drifts, and exhaust flows for it.
+DRIFT = (-50, -49, -3, -2, -1, -1, 0, 1, 1, 2, 3, 50)
+DRIFT_FLOWS = (0, 1, 1, 2, 7, 500, 20000)
+# Ends of a condition on NOx, and of one on channel 6.
+DRIFT_ENDS = {4: (-51, -50, -49, -2, -1, 0, 1, 2),
+              6: (CHANNEL_6[0] - 1, CHANNEL_6[0], CHANNEL_6[0] + 1, -25000, -100, -7, -2, -1, 0, 1,
+                  7, 25000, -CHANNEL_6[0])}
 
 
 def random_values(rng, style, before):
@@ -77,15 +91,19 @@ def random_values(rng, style, before):
     if style in ('tiny', 'equal'):
         return dict(speed=rng.randint(0, 3), altitude=rng.randint(-2, 2),
                     temperature=2931 + rng.randint(0, 2), flow=rng.randint(0, 3),
-                    nox=rng.randint(0, 3), co2=rng.randint(0, 3))
+                    nox=rng.randint(-1, 3), co2=rng.randint(0, 3))
     if style == 'altitudes':
         return dict(speed=rng.choice((0, 300, 700, 1000)), altitude=rng.randint(-30, 5),
-                    temperature=2931, flow=rng.randint(0, 1), nox=rng.randint(0, 1), co2=0)
+                    temperature=2931, flow=rng.randint(0, 1), nox=rng.randint(-1, 1), co2=0)
     if style == 'bands':    # at an edge of a band or in none, NOx about the limits
         air = {field: rng.choice(values + [drives.FILL[field]] * 4)
                for field, values in drives.BAND_VALUES.items()}
         return dict(air, speed=rng.choice((0, 500, 500, 500, 500, 500)), flow=500,
                     nox=rng.choice((30, 50, 51, 65, 80, 81)), co2=0)
+    if style == 'drift':    # NOx about zero, its weight about the limit of a short distance
+        return dict(speed=rng.choice((0, 0, 0, 1, 2, 500)), altitude=rng.choice((100, 100, 1000)),
+                    temperature=rng.choice((2931, 2931, 3050)), flow=rng.choice(DRIFT_FLOWS),
+                    nox=rng.choice(DRIFT), co2=0)
     if style == 'edges':
         return {field: rng.choice(field_edges(field)[0]) for field in ranges}
     if style == 'ramp' and before is not None:
@@ -94,6 +112,17 @@ def random_values(rng, style, before):
         values['altitude'] = min(5000, max(-500, before['altitude'] - 7))
         return values
     return {field: rng.randint(*ranges[field]) for field in ranges}
+
+
+def steered(rng, samples, values):
+    """The values with a NOx by which the trip's weighted sum of U comes near 0 or near its limit,
+    as far as one sample can take it there."""
+    trip = samples + [Sample(second=len(samples), **values)]
+    limit = drives.weighted_limit(trip)
+    wanted = rng.choice((0, 0, limit)) - reference.weighted_nox_sum(samples) + rng.randint(-1, 1)
+    amount = wanted // (5 if reference.extended(trip[-1]) else 8) + rng.choice((0, 0, 1))
+    nox = 1 if abs(amount) <= 20000 else 50
+    return dict(values, flow=min(20000, abs(amount) // nox), nox=nox if amount > 0 else -nox)
 
 
 def random_window(rng, style):
@@ -107,6 +136,9 @@ def random_window(rng, style):
     if rng.random() < 0.1:
         width = rng.choice((1, 2, 599, 600))
     condition = rng.randint(0, 6)
+    if style == 'drift':    # NOx and channel 6
+        channel = rng.choice((channel, 4, 6, 6))
+        condition = rng.choice((condition, 4, 6))
     low, high = random_condition(rng, style, condition)
     return Window(function, channel, condition, 0, width, 0, low, high)
 
@@ -115,16 +147,20 @@ def random_condition(rng, style, condition):
     """Bounds of a condition: often all, sometimes never, otherwise some values."""
     kind = rng.random()
     if kind < 0.35:
-        return rng.choice(((INT_MIN, INT_MAX), (-500, 100000000), (0, INT_MAX)))
+        return rng.choice(((INT_MIN, INT_MAX), CHANNEL_6, (0, INT_MAX)))
     if kind < 0.45:    # never qualifies
-        return rng.choice(((INT_MIN, -501), (100000001, INT_MAX), (-1000, -600)))
+        least, most = CHANNEL_6
+        return rng.choice(((INT_MIN, least - 1), (most + 1, INT_MAX), (2 * least, least - 1)))
     if kind < 0.55:    # a single value
-        value = rng.choice((0, 1, 2, 2931, 600, -3, 100000000))
+        value = rng.choice((0, 1, 2, 2931, 600, -1, -3, *reference.RANGES['nox'], *CHANNEL_6))
         return value, value
+    if style == 'drift' and condition in DRIFT_ENDS:
+        ends = DRIFT_ENDS[condition]
+        return tuple(sorted((rng.choice(ends), rng.choice(ends))))
     if style in ('wide', 'edges', 'ramp'):
-        tops = [high for _, high in reference.RANGES.values()] + [100000000]
-        top = tops[condition]
-        return tuple(sorted((rng.randint(-500, top), rng.randint(-500, top))))
+        low, high = CHANNEL_RANGES[condition]
+        low = min(-500, low)
+        return tuple(sorted((rng.randint(low, high), rng.randint(low, high))))
     if condition == 2:
         return tuple(sorted((rng.randint(2930, 2934), rng.randint(2930, 2934))))
     if condition == 1:
@@ -169,6 +205,8 @@ class Maker:
         if count and rng.random() < 0.1:
             values = dict(values, altitude=drives.near_height(
                 rng, self.trip.samples[0].altitude, *reference.RANGES['altitude']))
+        if self.style == 'drift' and rng.random() < 0.3:
+            values = steered(rng, self.trip.samples, values)
         self.before = values
         second = count
         if self.fault():
@@ -193,8 +231,8 @@ class Maker:
     def step(self):
         """One more call, its kind by weight."""
         full = len(self.trip.samples) >= self.max_samples
-        kinds = {'sample': 0 if full else 50, 'read': 25, 'verdict': 6, 'close': 2,
-                 'clear': 2, 'declare': 4}
+        kinds = {'sample': 0 if full else 50, 'read': 25,
+                 'verdict': 25 if self.style == 'drift' else 6, 'close': 2, 'clear': 2, 'declare': 4}
         if not self.trip.samples:
             kinds['declare'] = 40
         kind = self.rng.choices(list(kinds), list(kinds.values()))[0]
@@ -508,6 +546,172 @@ def average_great_list():
     return calls, reference.replay(calls)
 
 
+# --- Named lists: NOx below zero (R-6) ---------------------------------------
+
+FUNCTION_NAMES = ('count', 'sum', 'smallest', 'largest', 'average', 'percentile')
+
+# Exhaust flow and NOx of a sample each, for windows over channel 4 and over channel 6.
+DRIFTING = {4: [(1, -3), (1, -1), (1, -2), (1, 0), (1, 2), (1, -50)],
+            6: [(10, -3), (5, 1), (0, -50), (20000, -50), (1, -1), (7, 0), (20000, 5000)]}
+
+# The same for averages of two: halves below zero, beside even and odd numbers, and about it.
+DRIFT_HALVES = {4: [(1, nox) for nox in (-1, -2, -3, -50, -49, -48, 5000, -49, 0, -1, 2, 5)],
+                6: [(20000, -50), (19999, -49), (1, -2), (3, -1), (2, -2), (1, 1), (2, -1),
+                    (20000, -50), (1, -1)]}
+
+# Ends of the conditions on NOx and on channel 6 under which a window adds the speeds up.
+DRIFT_CONDITIONS = {
+    4: [(-50, -50), (-51, -51), (-50, -49), (-49, -2), (-2, -1), (-1, -1), (-1, 1), (-2, 2),
+        (INT_MIN, -1), (INT_MIN, 0), (0, INT_MAX), (1, INT_MAX), (-50, 5000), (INT_MIN, -51),
+        (5001, INT_MAX), (65486, 65535)],
+    6: [(-1000000, -1000000), (-1000001, -1000001), (-999999, -1), (-1000000, -999999),
+        (INT_MIN, -1000001), (-1000001, -1000000), (-20000, 20000), (-20001, 19999),
+        (-19999, 20000), (INT_MIN, -1), (INT_MIN, -20001), (0, INT_MAX), (1, INT_MAX),
+        (-1000000, 100000000), (-1, 1), (2 ** 31 - 20000, INT_MAX)]}
+CONDITION_NOX = (-50, -49, -2, -1, 0, 1, 2, 5000)
+
+# Function, channel, width, and exhaust flow and NOx of a sample each.
+DRIFT_HELD = {'largest': (3, 4, 3, [(1, -5), (1, -7), (1, -7), (1, -3)]),
+              'smallest': (2, 4, 3, [(1, -5), (1, -3), (1, -3), (1, -7)]),
+              'smallest-through-zero': (2, 4, 2, [(1, 1), (1, 0), (1, -1), (1, 0), (1, 1)]),
+              'largest-through-zero': (3, 6, 2, [(5, -1), (0, -50), (9, 1), (0, -1), (5, -1)])}
+
+# What the two bytes of NOx are without a sign: 32767, -32768, -51, -50 and -1.
+NOX_PATTERNS = (32767, 32768, 65485, 65486, 65535)
+
+# D, other U, extended U: with D of 0; with a weight of -1, 0 and 1; with a weight of 0 or below
+# and U above zero; with one above 0 and U below zero or 0; with one that is the limit or is one
+# off, the limit being 403 at a D of 1, 807 at 2 and 320,000 at 793; far below zero.
+DRIFT_WEIGHTS = (
+    (0, -1, 0), (0, 0, -1), (0, 1, -1), (0, -5, 8), (0, 1000, -1500), (0, -1007, 1692),
+    (1, -2, 3), (1, -5, 8), (1, 0, 0), (1, 5, -8), (1, 2, -3), (1, -1, 0), (1, 0, -1),
+    (1, -5, 7), (1, -1000, 1599), (1, -1000, 1600), (1, -1000, 1601),
+    (1, 3, -4), (1, 1000, -1500), (1, 1000, -1519), (1, 1000, -1520), (1, 1000, -1000),
+    (1, -1004, 1687), (1, -1007, 1692), (1, 1001, -1521), (1, 1003, -1524),
+    (2, 999, -1437), (2, 1001, -1440), (793, 40005, -8), (793, 40006, -8), (793, -5, 64008),
+    (793, -5, 64009), (793, -40000, 0), (793, -40001, 0), (793, 0, -64001), (793, -50000, -150000))
+
+
+def drifting_samples(readings):
+    """Samples of a car that stands, with this exhaust flow and NOx each."""
+    return [plain(k, speed=0, flow=flow, nox=nox) for k, (flow, nox) in enumerate(readings)]
+
+
+def drift_window_lists():
+    """Windows over readings around zero, each read after every sample: every function on NOx and
+    on channel 6; means at a half; NOx from -20 up, whose percentile is that of 1 to 22 samples;
+    held entries; all functions on both channels at once, on a longer trip."""
+    lists = {}
+    for channel in (4, 6):
+        some = WHOLE._replace(channel=channel, width=3)
+        for function, name in enumerate(FUNCTION_NAMES):
+            lists['drift-%s-%d' % (name, channel)] = [
+                declared(some._replace(function=function))] + read_each(
+                    drifting_samples(DRIFTING[channel]))
+        lists['drift-halves-%d' % channel] = [
+            declared(some._replace(function=reference.AVERAGE, width=2))] + read_each(
+                drifting_samples(DRIFT_HALVES[channel]))
+        lists['drift-percentiles-%d' % channel] = [
+            declared(some._replace(function=reference.PERCENTILE, width=600))] + read_each(
+                drifting_samples([({4: 1, 6: 3}[channel], nox) for nox in range(-20, 2)]))
+    for name, (function, channel, width, readings) in DRIFT_HELD.items():
+        lists['drift-held-' + name] = [
+            declared(WHOLE._replace(function=function, channel=channel, width=width))] + read_each(
+                drifting_samples(readings))
+    lists['drift-windows'] = drift_windows_list()
+    return lists
+
+
+def drift_windows_list():
+    """All functions on NOx and on channel 6, and four of them where the other is below zero or
+    not above it, read after every sample of a trip whose NOx meets each number from -50 to 50."""
+    windows = [WHOLE._replace(function=function, channel=channel, width=(3, 7)[function % 2])
+               for function in range(6) for channel in (4, 6)]
+    windows += [WHOLE._replace(function=function, channel=channel, condition=10 - channel,
+                               low=low, high=high, width=20)
+                for function, channel, low, high in (
+                    (reference.LARGEST, 4, -1000000, -1), (reference.AVERAGE, 4, -700000, 0),
+                    (reference.SMALLEST, 6, -50, 0), (reference.PERCENTILE, 6, -20, 20))]
+    trip = drifting_samples([(DRIFT_FLOWS[k % len(DRIFT_FLOWS)], k * 37 % 101 - 50)
+                             for k in range(101)])
+    return [declared(each) for each in windows] + read_each(trip, len(windows))
+
+
+def drift_condition_list(channel):
+    """The sums of the speeds, each of which is a power of two, under conditions on NOx or on
+    channel 6; these are read at the end."""
+    some = WHOLE._replace(function=reference.SUM, condition=channel, width=600)
+    trip = [plain(k, speed=2 ** k, flow=20000, nox=nox) for k, nox in enumerate(CONDITION_NOX)]
+    ends = DRIFT_CONDITIONS[channel]
+    return ([declared(some._replace(low=low, high=high)) for low, high in ends] + trip
+            + [('read', number) for number in range(len(ends))])
+
+
+def with_nox_bytes(record, pattern):
+    """The record with these two bytes of NOx, little-endian."""
+    return record[:10] + pattern.to_bytes(2, 'little') + record[12:]
+
+
+def nox_pattern_list():
+    """Each pattern in the bytes of NOx, and the sum of NOx after it."""
+    calls, second = [declared(WHOLE._replace(function=reference.SUM, channel=4))], 0
+    for pattern in NOX_PATTERNS:
+        calls += [('sample', with_nox_bytes(plain(second)[1], pattern)), ('read', 0)]
+        second += pattern in (65486, 65535)
+    return calls
+
+
+def drift_over_zero():
+    """A trip with a D of 1, then of 2, whose weighted sum goes through 0 and through the limit,
+    in both directions: -8, 7, -1, 399, 404, 404, 399, -9; 807 and 812."""
+    warm = drives.BANDS['warm']
+    readings = [(1, 1, -1, {}), (0, 1, 3, warm), (0, 1, -1, {}), (0, 5, 10, {}), (0, 1, 1, warm),
+                (0, 0, -50, {}), (0, 1, -1, warm), (0, 3, -17, {}), (1, 102, 1, {}), (0, 1, 1, warm)]
+    trip = [plain(k, speed=speed, flow=flow, nox=nox, **air)
+            for k, (speed, flow, nox, air) in enumerate(readings)]
+    return drives.judged_each(trip + [('clear',)] + trip[:2])
+
+
+def judged_trips_of(some_drives):
+    """Each drive as a trip, judged and cleared."""
+    return [call for drive in some_drives for call in drives.calls_of(drive) + [('clear',)]]
+
+
+def drift_far_below():
+    """A trip with a D of 1 and the least NOx that there is, whose weighted sum falls below -2 ** 31
+    and below -2 ** 32; it is judged beside these, and between them."""
+    calls = []
+    for k in range(600):
+        calls.append(plain(k, speed=int(k == 0), flow=20000, nox=-50))
+        calls += [('verdict',)] * (k + 1 in (1, 268, 269, 400, 536, 537, 600))
+    return calls
+
+
+def drift_verdict_lists():
+    """Verdicts about a weighted sum of 0, with a trip's samples and after refused ones, which
+    would take it over the limit, or below."""
+    over = [plain(1, speed=0, flow=20000, nox=5001)] + refused_samples(1, flow=20000, nox=5000)
+    below = [plain(2, speed=0, flow=20000, nox=-51)] + refused_samples(2, flow=20000, nox=-50)
+    return {
+        'drift-over-zero': drift_over_zero(),
+        'drift-far-below': drift_far_below(),
+        'drift-weights': judged_trips_of(drives.drift_drive(*each) for each in DRIFT_WEIGHTS),
+        'drift-refused': drives.judged_each(
+            [plain(0, speed=1, flow=1, nox=50)] + over + [plain(1, speed=0, flow=1, nox=1)] + below
+            + [plain(2, speed=0, flow=1, nox=-1), ('close',), plain(3, flow=20000, nox=5000)]),
+    }
+
+
+def drift_lists():
+    """Every list of R-6 but that of its edge drives."""
+    lists = drift_window_lists()
+    for channel in (4, 6):
+        lists['drift-conditions-%d' % channel] = drift_condition_list(channel)
+    lists['nox-patterns'] = nox_pattern_list()
+    lists.update(drift_verdict_lists())
+    return lists
+
+
 def named_lists():
     """The fixed lists: {name: (calls, answers)}."""
     lists = {}
@@ -518,9 +722,10 @@ def named_lists():
     lists.update(average_lists())
     for width in (2, 3, 4, 5, 7):
         lists['average-slides-%d' % width] = average_slide_list(width)
-    lists['extended-limits'] = [call for edge in drives.short_weighted_edges()
-                                for drive in (edge.kept, edge.broken)
-                                for call in drives.calls_of(drive) + [('clear',)]]
+    lists.update(drift_lists())
+    for name, edges in (('extended-limits', drives.short_weighted_edges()),
+                        ('drift-limits', drives.short_drift_edges())):
+        lists[name] = judged_trips_of(drive for edge in edges for drive in (edge.kept, edge.broken))
     for field in reference.RANGES:
         lists['edges-' + field] = field_edge_list(field)
     lists['window-faults'] = [declared(WHOLE._replace(**fault)) for fault in WINDOW_FAULTS]
@@ -542,12 +747,13 @@ def full_trip_list():
 
 
 def trip_lists():
-    """The clean, the exceeded, the downhill, the summer and the full drive as lists of
-    calls."""
+    """The clean, the exceeded, the downhill, the summer, the drifting and the full drive as
+    lists of calls."""
     yield 'clean', drive_list(drives.clean_drive())
     yield 'exceeded', drive_list(drives.exceeded_drive())
     yield 'downhill', drive_list(drives.downhill_drive())
     yield 'summer', drive_list(drives.summer_drive())
+    yield 'drifting', drive_list(drives.drifting_drive())
     yield 'full', full_trip_list()
 
 
@@ -581,6 +787,7 @@ def random_out_length(rng):
 
 
 MOST = 2 ** 64 - 1    # of a number of a tally
+SIGNED_ENDS = (-2 ** 63, 2 ** 63 - 1)    # of U and of extended U
 
 
 def tally_of(N, S, counts, U, extended_U):
@@ -588,21 +795,39 @@ def tally_of(N, S, counts, U, extended_U):
     return reference.TALLY_LAYOUT.pack(*N, *S, *[counts] * 6, U, extended_U)
 
 
+def nox_bounds(samples):
+    """The least and the most of U, and of extended U, of so many samples (R-6)."""
+    return tuple(end * samples for end in CHANNEL_6)
+
+
+def random_nox_sum(rng, samples):
+    """A U or extended U of so many samples, within its bounds, often below zero or near it."""
+    low, high = nox_bounds(samples)
+    return rng.choice((low, high, 0, rng.randint(low, high), rng.randint(low, 0),
+                       max(low, rng.randint(-3, 0)), min(high, rng.randint(0, 3))))
+
+
 def random_tally(rng):
-    """A tally, one of its fields often at or just over its bound, extended U too."""
+    """A tally, one of its fields often at a bound or just beyond it; U and extended U also below
+    zero, extended U also U, one above it or another."""
     N = rng.choice(([0, 0, 0], [1, 2, 3], [7201, 0, 0], [0, 7200, 0], [0, 0, 3601],
                     [3600, 0, 0], [2400, 2400, 2401], [2400, 2401, 2401], [MOST, 1, 0],
                     [2 ** 63, 2 ** 63, 5]))
     together = min(sum(N), reference.MAX_SAMPLES)
-    bounds = [min(MOST, top * n) for top, n in zip((600, 900, 3000), N)]
-    bounds += [together] * 6 + [100000000 * together]
-    fields = N + [rng.randint(0, bound) for bound in bounds]
-    k = rng.randrange(len(bounds))
-    fields[3 + k] = rng.choice((bounds[k], bounds[k], bounds[k], min(bounds[k] + 1, MOST)))
-    U = fields[-1]
-    fields.append(rng.choice((0, U, U, U, rng.randint(0, U), rng.randint(0, U), min(U + 1, MOST))))
+    bounds = [min(MOST, top * n) for top, n in zip((600, 900, 3000), N)] + [together] * 6
+    U, other = random_nox_sum(rng, together), random_nox_sum(rng, together)
+    fields = (N + [rng.randint(0, bound) for bound in bounds]
+              + [U, rng.choice((0, U, other, other, min(U + 1, nox_bounds(together)[1])))])
+    k = rng.randrange(3, len(fields))
+    if k < 12:
+        bound = bounds[k - 3]
+        fields[k] = rng.choice((bound, bound, bound, min(bound + 1, MOST)))
+    else:
+        low, high = nox_bounds(together)
+        fields[k] = rng.choice((low, low, high, low - 1, high + 1))
     if rng.random() < 0.05:
-        fields[rng.randrange(len(fields))] = rng.choice((MOST, 2 ** 63))
+        k = rng.randrange(len(fields))
+        fields[k] = rng.choice((MOST, 2 ** 63) if k < 12 else SIGNED_ENDS)
     tally = reference.TALLY_LAYOUT.pack(*fields)
     return (tally + tally)[:rng.choice(BAD_TALLY_LENGTHS)] if rng.random() < 0.05 else tally
 
@@ -632,9 +857,25 @@ def band_blocks():
     return [plain(0, **air)[1] for air in airs]
 
 
+def drift_blocks():
+    """Blocks of one record, extended or not, with the least channel 6, the greatest and some
+    beside zero; and of two, whose U and extended U are of different signs, or 0."""
+    warm = drives.BANDS['warm']
+    blocks = [plain(0, flow=flow, nox=nox, **air)[1] for air in ({}, warm)
+              for flow, nox in ((20000, -50), (20000, 5000), (1, -1), (1, 1), (0, -50))]
+    return blocks + [plain(0, flow=1, nox=other)[1] + plain(1, flow=1, nox=extended_U, **warm)[1]
+                     for other, extended_U in ((3, -1), (-7, 5), (5, -5), (-5, 8), (-2, -1))]
+
+
+def longest_drift_blocks():
+    """Blocks of 7,201 records with the least channel 6 and with the greatest, extended or not."""
+    return [drives.block_of(drives.drive_of([0] * reference.MAX_SAMPLES, flow=20000, nox=nox, **air))
+            for nox in reference.RANGES['nox'] for air in ({}, drives.BANDS['warm'])]
+
+
 def named_tallies():
     """Blocks of no record, of one, of 7,201 and 7,202, of damaged lengths, with a value at each
-    edge of each range and of each band, and with several refusals at once."""
+    edge of each range and of each band, with NOx below zero, and with several refusals at once."""
     drive = drives.block_of(drives.clean_drive(7200)) + drives.block_of(drives.drive_of([500, 3000]))
     one = drive[:16]
     first = reference.decode_sample(one)
@@ -646,15 +887,19 @@ def named_tallies():
         for values in field_edges(field):
             for value in values:
                 blocks.append(reference.encode_sample(first._replace(**{field: value})))
+    blocks += [with_nox_bytes(one, pattern) for pattern in NOX_PATTERNS]
     blocks += band_blocks() + [b''.join(band_blocks()), drives.block_of(drives.summer_drive())]
+    blocks += drift_blocks() + [b''.join(drift_blocks()), drives.block_of(drives.drifting_drive())]
+    blocks += longest_drift_blocks()
     lengths = [(block, TALLY_LENGTH) for block in blocks]
     lengths += [(block, n) for block in (b'', one, bad, b'x', drive) for n in BAD_TALLY_LENGTHS]
     return [tally_line(block, n) for block, n in lengths]
 
 
-def bound_tally(samples):
-    """The tally of so many motorway samples with every number at its bound."""
-    U = 100000000 * samples
+def bound_tally(samples, end=1):
+    """The tally of so many motorway samples with every number at its bound, U and extended U
+    at their greatest or, for an end of 0, at their least."""
+    U = nox_bounds(samples)[end]
     return tally_of((0, 0, samples), (0, 0, 3000 * samples), samples, U, U)
 
 
@@ -664,8 +909,8 @@ def extended_tallies(*amounts):
 
 
 def extended_join_cases():
-    """Two tallies and the output's length: extended U at U and one above it, in either
-    tally; every bound reached; 12 after 11 and before 13."""
+    """Two tallies and the output's length: extended U below U, at it and above it, in either
+    tally; every bound reached; 13, and 11 before it."""
     half, more, full = (bound_tally(n) for n in (3600, 3601, 7201))
     some, at, above = extended_tallies(3, 7, 8)
     pairs = [(at, some), (half, more), (above, at), (at, above), (above, full), (full, at)]
@@ -673,19 +918,61 @@ def extended_join_cases():
             + [(a, at, TALLY_LENGTH - 8) for a in (some, above, full)])
 
 
+def signed_tally(samples, U, extended_U):
+    """A tally of so many samples of a car that stands."""
+    return tally_of((samples, 0, 0), (0, 0, 0), 0, U, extended_U)
+
+
+def bounded_tallies(samples):
+    """Tallies of so many samples with U and extended U each at a bound."""
+    ends = nox_bounds(samples)
+    return [signed_tally(samples, U, extended_U) for U in ends for extended_U in ends]
+
+
+def unbounded_tallies(samples, *beyond):
+    """Ill-formed ones with U or extended U, the other one being 0, one beyond a bound or at
+    these numbers."""
+    low, high = nox_bounds(samples)
+    return [signed_tally(samples, *pair) for far in beyond or (low - 1, high + 1)
+            for pair in ((far, 0), (0, far))]
+
+
+# U and extended U of two tallies: sums of different signs, 0, and extended U above U.
+SIGNED_SUMS = [((-7, 0), (9, 0)), ((7, -3), (-7, 3)), ((-1, 0), (0, 1)), ((2, 5), (-4, 6)),
+               ((-1000000, 100000000), (100000000, -1000000)), ((-1, -1), (-1, -1))]
+
+
+def signed_join_cases():
+    """R-6: U and extended U at each bound, one beyond it and at the ends of an i64, beside a
+    tally of 0; sums of different signs; every lower bound reached; 12 after 11 and before 13,
+    and 13."""
+    zero, one = bytes(TALLY_LENGTH), signed_tally(1, -1, 1)
+    half, more, full = (bound_tally(n, 0) for n in (3600, 3601, 7201))
+    tallies = [tally for samples in (0, 1, 7201) for tally in
+               bounded_tallies(samples)[:4 if samples else 1] + unbounded_tallies(samples)]
+    tallies += unbounded_tallies(1, *SIGNED_ENDS)
+    pairs = [(tally, zero) if k % 2 else (zero, tally) for k, tally in enumerate(tallies)]
+    pairs += [(signed_tally(1, *a), signed_tally(1, *b)) for a, b in SIGNED_SUMS]
+    pairs += [(half, more), (half, bound_tally(3601)), (full, one), (one, full), (full, full)]
+    ill = unbounded_tallies(7201)[:2]
+    pairs += [pair for bad in ill for pair in ((bad, full), (full, bad))]
+    return ([(a, b, TALLY_LENGTH) for a, b in pairs]
+            + [(a, one, TALLY_LENGTH - 8) for a in (one, ill[0], full)])
+
+
 def join_cases():
     """These, and every pair of some tallies, ill-formed ones, other lengths, and several
     refusals at once."""
-    good = [bound_tally(n) for n in (0, 3600, 3601, 7201)] + extended_tallies(3, 7)
-    at, full = good[-1], good[3]
-    ill = extended_tallies(2 ** 63, MOST) + [
-        tally_of((samples, 0, 0), (0, 0, 0), 0, U, U + 1)
-        for samples in (0, 1, 7201) for U in {0, 100000000 * samples}]
+    good = [bound_tally(n) for n in (0, 3600, 3601, 7201)] + extended_tallies(3, -8, 8, 7)
+    good += [bound_tally(n, 0) for n in (3600, 3601, 7201)] + bounded_tallies(1)
+    at, full = extended_tallies(7)[0], bound_tally(7201)
+    ill = [tally for samples in (0, 1, 7201) for tally in
+           unbounded_tallies(samples) + unbounded_tallies(samples, *SIGNED_ENDS)]
     pairs = [(a, b) for a in good for b in good]
     pairs += [pair for bad in ill for b in (at, full, bad) for pair in ((bad, b), (b, bad))]
     for n in BAD_TALLY_LENGTHS:
         pairs += [((at + at)[:n], at), (at, (at + at)[:n])]
-    return (extended_join_cases() + [(a, b, TALLY_LENGTH) for a, b in pairs]
+    return (extended_join_cases() + signed_join_cases() + [(a, b, TALLY_LENGTH) for a, b in pairs]
             + [(a, at, n) for n in BAD_TALLY_LENGTHS for a in (at, ill[0], full)])
 
 
@@ -760,6 +1047,30 @@ def judged_trips(lists):
             if call[0] == 'verdict' and samples]
 
 
+def number_sign(number):
+    return (number > 0) - (number < 0)
+
+
+def read_signs(lists):
+    """Of each number that is read: the function, the channel and the number's sign."""
+    return {(windows[call[1]].function, windows[call[1]].channel, number_sign(answer[1]))
+            for call, answer, windows, _ in followed(lists)
+            if call[0] == 'read' and answer[0] == 'number'}
+
+
+def condition_signs(lists):
+    """Of each reading under a condition that some of the samples looked at meet and some don't:
+    its channel and the signs of low and high."""
+    met = set()
+    for call, answer, windows, samples in followed(lists):
+        if call[0] == 'read' and answer != ('refused', 9):
+            window = windows[call[1]]
+            seen = reference.looked_at(window, samples)
+            if 0 < len(reference.qualifying_values(window, samples)) < len(seen):
+                met.add((window.condition, number_sign(window.low), number_sign(window.high)))
+    return met
+
+
 def averaged(lists):
     """Of each average that is read: the sum and the count of the qualifying values."""
     means = []
@@ -788,7 +1099,8 @@ def parsed_options():
     parser.add_argument('--averages', action='store_true',
                         help='every average after every sample too, at counts of 1 to 600')
     parser.add_argument('--trips', action='store_true',
-                        help='the clean, the exceeded, the downhill, the summer and the full drive too')
+                        help='the clean, the exceeded, the downhill, the summer, the drifting and the '
+                             'full drive too')
     parser.add_argument('--drives', action='store_true',
                         help='these and the edge drives too (large)')
     parser.add_argument('--steps', action='store_true',

@@ -1,7 +1,7 @@
 """Checks of the reckoning itself: the marked cases (a) to (i) of document 01,
 the reports, rule 21 of document 02's R-1, the weights of its R-2, the averages of
-its R-4 and the CO2 windows of its R-5 by hand, the rolling recount, the edge drives,
-and what the generator reaches.
+its R-4, the CO2 windows of its R-5 and the NOx below zero of its R-6 by hand, the
+rolling recount, the edge drives, and what the generator reaches.
 Run: python3 tests/reckoning/selftest.py
 """
 
@@ -9,6 +9,7 @@ import glob
 import os
 import random
 import re
+import struct
 import sys
 from fractions import Fraction
 
@@ -213,14 +214,14 @@ def extended_cases():
 
 
 def extended_tallies():
-    """"The tally gains extended U as its last field, at most U"."""
+    """"The tally gains extended U as its last field"; it "need no longer be at most U" (R-6)."""
     def one(U, extended_U, samples=1):
         return generate.tally_of((samples, 0, 0), (0, 0, 0), 0, U, extended_U)
 
     zero, most = bytes(TALLY_LENGTH), 100000000
     for U, extended_U, answer in ((0, 0, None), (7, 0, None), (7, 6, None), (7, 7, None),
-                                  (7, 8, 12), (0, 1, 12), (most, most, None), (most, most + 1, 12),
-                                  (most + 1, most + 1, 12), (7, 2 ** 64 - 1, 12)):
+                                  (7, 8, None), (0, 1, None), (most, most, None), (most, most + 1, 12),
+                                  (most + 1, most + 1, 12), (7, 2 ** 63 - 1, 12)):
         tally = one(U, extended_U)
         expected = ('refused', answer) if answer else tally
         check('tally with U %d, extended U %d' % (U, extended_U),
@@ -229,7 +230,7 @@ def extended_tallies():
     check('extended U is added up to the bound',
           reference.join(generate.bound_tally(3600), generate.bound_tally(3601)),
           generate.bound_tally(7201))
-    ill, full = one(7, 8), one(7, 7, 7201)
+    ill, full = one(7, most + 1), one(7, 7, 7201)
     check('11 before 12', reference.join(ill, one(7, 7), TALLY_LENGTH - 8), ('refused', 11))
     check('12 before 13', [reference.join(ill, full), reference.join(full, ill)],
           [('refused', 12)] * 2)
@@ -818,7 +819,7 @@ def co2_faults(block, record):
             and all(0 < c < 1001 for c in numbers[1:4]))
     values = [reference.decode_sample(block[k:k + 16]) for k in range(0, len(block) - 15, 16)]
     bad = any(s.speed > 3000 or s.altitude < -500 or s.altitude > 5000 or s.temperature < 2000
-              or s.temperature > 3500 or s.flow > 20000 or s.nox > 5000 or s.co2 > 100000
+              or s.temperature > 3500 or s.flow > 20000 or s.nox < -50 or s.nox > 5000 or s.co2 > 100000
               for s in values)
     return {number for number, there in (
         (14, not well), (1, len(block) % 16 > 0), (5, len(block) >= 16 * 7202), (4, bad)) if there}
@@ -826,7 +827,7 @@ def co2_faults(block, record):
 
 def co2_refusals():
     """"refused with 14, ahead of 1, 5, 4"; each pair of reasons meets."""
-    cases = (co2.reference_cases() + co2.field_cases() + co2.order_cases()
+    cases = (co2.reference_cases() + co2.field_cases() + co2.nox_cases() + co2.order_cases()
              + co2.long_order_cases())
     met = {}
     for each in cases:
@@ -849,7 +850,7 @@ def co2_refusals():
     check('each of them is refused alone', {name for name in co2.bad_references()}
           - {name[len('reference of '):] for name in met[frozenset((14,))]}, set())
     beside = ('speed 3001', 'altitude -501', 'altitude 5001', 'temperature 1999',
-              'temperature 3501', 'flow 20001', 'nox 5001', 'co2 100001')
+              'temperature 3501', 'flow 20001', 'nox -51', 'nox 5001', 'co2 100001')
     check('values just outside their range at each place',
           {'%s, %s sample' % (value, place) for value in beside for place in co2.PLACES}
           - set(met[frozenset((4,))]), set())
@@ -1219,6 +1220,555 @@ def co2_cases():
     co2_random()
 
 
+# --- NOx below zero (R-6) ----------------------------------------------------
+
+# The two bytes of NOx, and the NOx where it is within -50 to 5000: 65486, 65485, 65487, 65535,
+# 65534, 0, 1, 4999, 5000, 5001, 32767, 32768 and 32769 without a sign.
+NOX_BYTES = {'ceff': -50, 'cdff': None, 'cfff': -49, 'ffff': -1, 'feff': -2, '0000': 0, '0100': 1,
+             '8713': 4999, '8813': 5000, '8913': None, 'ff7f': None, '0080': None, '0180': None}
+
+# Readings of the named lists.  The last three of NOx are -3; -3, -1; -3, -1, -2; -1, -2, 0;
+# -2, 0, 2; 0, 2, -50.  Those of channel 6 are -30; -30, 5; -30, 5, 0; 5, 0, -1000000; 0, -1000000,
+# -1; -1000000, -1, 0; -1, 0, 100000000, with means of -12.5, -25/3, -999995/3, -1000001/3 twice
+# and 99999999/3.  95 of 100 is all of up to 19, so the percentile of three is the largest.
+DRIFT_READINGS = {
+    'drift-count-4': [1, 2, 3, 3, 3, 3],
+    'drift-sum-4': [-3, -4, -6, -3, 0, -48],
+    'drift-smallest-4': [-3, -3, -3, -2, -2, -50],
+    'drift-largest-4': [-3, -1, -1, 0, 2, 2],
+    'drift-average-4': [-3, -2, -2, -1, 0, -16],
+    'drift-percentile-4': [-3, -1, -1, 0, 2, 2],
+    'drift-count-6': [1, 2, 3, 3, 3, 3, 3],
+    'drift-sum-6': [-30, -25, -25, -999995, -1000001, -1000001, 99999999],
+    'drift-smallest-6': [-30, -30, -30, -1000000, -1000000, -1000000, -1],
+    'drift-largest-6': [-30, 5, 5, 5, 0, 0, 100000000],
+    'drift-average-6': [-30, -12, -8, -333332, -333334, -333334, 33333333],
+    'drift-percentile-6': [-30, 5, 5, 5, 0, 0, 100000000],
+    # -1.5, -2.5, -26.5, -49.5, -48.5, 2476, 2475.5, -24.5, -0.5, 0.5, 3.5
+    'drift-halves-4': [-1, -2, -2, -26, -50, -48, 2476, 2476, -24, 0, 0, 4],
+    # of -1000000, -979951, -2, -3, -4, 1, -2, -1000000, -1: -989975.5, -489976.5, -2.5, -3.5, -1.5,
+    # -0.5, -500001, -500000.5
+    'drift-halves-6': [-1000000, -989976, -489976, -2, -4, -2, 0, -500001, -500000],
+    # of 20 the 19th, of 21 and 22 the 20th and the 21st: -2, -1 and 0
+    'drift-percentiles-4': list(range(-20, -1)) + [-2, -1, 0],
+    'drift-percentiles-6': list(range(-60, -3, 3)) + [-6, -3, 0],
+    'drift-held-largest': [-5, -5, -5, -3],
+    'drift-held-smallest': [-5, -5, -5, -7],
+    'drift-held-smallest-through-zero': [1, 0, -1, -1, 0],
+    'drift-held-largest-through-zero': [-5, 0, 9, 9, 0],
+    # sums of 1, 2, 4 .. 128 at -50, -49, -2, -1, 0, 1, 2 and 5000
+    'drift-conditions-4': [1, 0, 3, 6, 12, 8, 56, 124, 15, 31, 240, 224, 255, 0, 0, 0],
+    # at -1000000, -980000, -40000, -20000, 0, 20000, 40000 and 100000000
+    'drift-conditions-6': [1, 0, 14, 1, 0, 1, 56, 24, 48, 15, 7, 240, 224, 255, 16, 0],
+    'nox-patterns': [0, 0, 0, -50, -51],
+}
+
+# Move counts after each sample, and the seconds held at the end.  The first two are case (b) below
+# zero, and the same turned over.  Of 1, 0, -1, 0, 1 in twos, smallest: 1 in; out, 0 in; out, -1 in;
+# 0 in; -1 out of the window, 1 in.  Of -5, 0, 9, 0, -5 in twos, largest: the same.
+DRIFT_MOVES = {'drift-held-largest': ([1, 2, 4, 7], [3]),
+               'drift-held-smallest': ([1, 2, 4, 7], [3]),
+               'drift-held-smallest-through-zero': ([1, 3, 5, 6, 8], [3, 4]),
+               'drift-held-largest-through-zero': ([1, 3, 5, 6, 8], [3, 4])}
+
+# D, other U, extended U: the weight 8 x other U + 5 x extended U, exceeded.  640000 / 1586 lies
+# between 403 and 404, twice as much between 807 and 808; at 793 it is 320,000.
+DRIFT_MARKS = {
+    (0, -1, 0): (-8, 0), (0, 0, -1): (-5, 0), (0, 1, -1): (3, 0), (0, -5, 8): (0, 0),
+    (0, 1000, -1500): (500, 0), (0, -1007, 1692): (404, 0),
+    (1, -2, 3): (-1, 0), (1, -5, 8): (0, 0), (1, 0, 0): (0, 0), (1, 5, -8): (0, 0),
+    (1, 2, -3): (1, 0), (1, -1, 0): (-8, 0), (1, 0, -1): (-5, 0),
+    (1, -5, 7): (-5, 0), (1, -1000, 1599): (-5, 0), (1, -1000, 1600): (0, 0),    # U of 2, 599, 600
+    (1, -1000, 1601): (5, 0), (1, 3, -4): (4, 0),    # U of 601 and -1
+    (1, 1000, -1500): (500, 1), (1, 1000, -1519): (405, 1), (1, 1000, -1520): (400, 0),
+    (1, 1000, -1000): (3000, 1),    # U of -500, -519, -520 and 0
+    (1, -1004, 1687): (403, 0), (1, -1007, 1692): (404, 1),
+    (1, 1001, -1521): (403, 0), (1, 1003, -1524): (404, 1),
+    (2, 999, -1437): (807, 0), (2, 1001, -1440): (808, 1),
+    (793, 40005, -8): (320000, 0), (793, 40006, -8): (320008, 1),
+    (793, -5, 64008): (320000, 0), (793, -5, 64009): (320005, 1),
+    (793, -40000, 0): (-320000, 0), (793, -40001, 0): (-320008, 0),
+    (793, 0, -64001): (-320005, 0), (793, -50000, -150000): (-1150000, 0)}
+
+# A sample at 50.0 km/h; one at 303.0 K; the tally of nothing else.  Each of U's bytes is written
+# out: -1,000,000 is 2 ** 64 less 0xf4240.
+ONE_URBAN = '01' + '00' * 23 + 'f401' + '00' * 22 + '00' * 48
+TWO_URBAN = '02' + '00' * 23 + 'e803' + '00' * 22 + '00' * 48
+MINUS_MILLION, HUNDRED_MILLION = 'c0bdf0ffffffffff', '00e1f50500000000'
+MINUS_ONE, ZERO, MINUS_TWO = 'ff' * 8, '00' * 8, 'fe' + 'ff' * 7
+
+# Exhaust flow, NOx, whether it is extended, of each sample: the tally.
+TALLIES_BELOW_ZERO = [
+    ([(20000, -50, 0)], ONE_URBAN + MINUS_MILLION + ZERO),
+    ([(20000, -50, 1)], ONE_URBAN + MINUS_MILLION + MINUS_MILLION),
+    ([(20000, 5000, 1)], ONE_URBAN + HUNDRED_MILLION + HUNDRED_MILLION),
+    ([(1, -1, 0)], ONE_URBAN + MINUS_ONE + ZERO), ([(1, -1, 1)], ONE_URBAN + MINUS_ONE + MINUS_ONE),
+    ([(0, -50, 1)], ONE_URBAN + ZERO + ZERO),
+    ([(1, 3, 0), (1, -1, 1)], TWO_URBAN + '02' + '00' * 7 + MINUS_ONE),
+    ([(1, -7, 0), (1, 5, 1)], TWO_URBAN + MINUS_TWO + '05' + '00' * 7),
+    ([(1, 5, 0), (5, -1, 1)], TWO_URBAN + ZERO + 'fb' + 'ff' * 7)]
+
+# N of u, r, m, U, extended U, whether that is well formed.
+FORMED = [
+    ((1, 0, 0), -1000000, 0, True), ((1, 0, 0), -1000001, 0, False),
+    ((1, 0, 0), 0, -1000000, True), ((1, 0, 0), 0, -1000001, False),
+    ((0, 1, 0), -1000000, -1000000, True), ((0, 0, 1), -1000001, -1000001, False),
+    ((1, 0, 0), 100000000, 0, True), ((1, 0, 0), 100000001, 0, False),
+    ((1, 0, 0), 0, 100000000, True), ((1, 0, 0), 0, 100000001, False),
+    ((0, 0, 1), 100000000, -1000000, True), ((0, 1, 0), -1000000, 100000000, True),
+    ((0, 0, 1), 100000000, -1000001, False), ((0, 1, 0), -1000001, 100000000, False),
+    ((1, 1, 1), -3000000, 300000000, True), ((1, 1, 1), -3000001, 0, False),
+    ((1, 1, 1), 0, -3000001, False), ((1, 1, 1), 300000001, 0, False), ((1, 1, 1), 0, 300000001, False),
+    ((0, 0, 0), 0, 0, True), ((0, 0, 0), -1, 0, False), ((0, 0, 0), 0, -1, False),
+    ((0, 0, 0), 1, 0, False), ((0, 0, 0), 0, 1, False), ((0, 0, 0), -1, -1, False),
+    ((1, 0, 0), 7, 8, True), ((1, 0, 0), 0, 1, True), ((1, 0, 0), -8, -7, True),
+    ((1, 0, 0), -7, -8, True), ((1, 0, 0), -2, 5, True), ((1, 0, 0), 2, -1, True),
+    ((7201, 0, 0), -7201000000, 720100000000, True), ((0, 7201, 0), 720100000000, -7201000000, True),
+    ((0, 0, 7201), -7201000001, 0, False), ((2400, 2400, 2401), 0, -7201000001, False),
+    ((2400, 2400, 2401), 720100000001, 0, False), ((0, 0, 7201), 0, 720100000001, False),
+    ((2400, 2401, 2401), 0, 0, False),
+    ((1, 0, 0), -2 ** 63, 0, False), ((1, 0, 0), 0, -2 ** 63, False),
+    ((1, 0, 0), 2 ** 63 - 1, 0, False), ((1, 0, 0), 0, 2 ** 63 - 1, False)]
+
+# N, U and extended U of two tallies and of the joined one, or its refusal.
+JOINED = [
+    ((1, -7, 0), (1, 9, 0), (2, 2, 0)), ((1, 7, -3), (1, -7, 3), (2, 0, 0)),
+    ((1, -1, 0), (1, 0, 1), (2, -1, 1)), ((1, 2, 5), (2, -4, 6), (3, -2, 11)),
+    ((1, -1, -1), (1, -1, -1), (2, -2, -2)), ((1, 1, -1), (1, -2, -4), (2, -1, -5)),
+    ((1, -1000000, 100000000), (1, 100000000, -1000000), (2, 99000000, 99000000)),
+    ((1, -1000000, -1000000), (1, -1000000, -1000000), (2, -2000000, -2000000)),
+    ((0, 0, 0), (1, -1000000, 7), (1, -1000000, 7)), ((0, 0, 0), (0, -1, 0), 12),
+    ((3600, -3600000000, 1), (3601, -3601000000, -1), (7201, -7201000000, 0)),
+    ((7200, -7200000000, -7200000000), (1, 100000000, -1000000), (7201, -7100000000, -7201000000)),
+    ((7201, -7201000000, 0), (0, 0, 0), (7201, -7201000000, 0)),
+    ((7201, -7201000000, 0), (1, 1, 0), 13), ((7201, -5, 8), (7201, 5, -8), 13),
+    ((7201, -7201000001, 0), (1, 1, 0), 12), ((7201, 0, 0), (1, 0, -1000001), 12),
+    ((7201, 0, 720100000001), (7201, 0, 0), 12)]
+
+
+def by_calls(named, name, kind):
+    """The answers to the calls of a kind of a named list."""
+    return [answer for call, answer in zip(*named[name]) if call[0] == kind]
+
+
+def nox_fields():
+    """"The NOx field becomes signed, -50 to 5000", in a sample, in a block of each kind, and in
+    the report: a car that stands, with an exhaust flow of 1."""
+    for text, nox in NOX_BYTES.items():
+        record = bytes.fromhex('000000006400730b0100' + text + '00000000')
+        trip, _ = make_trip([window(SUM, channel, 1) for channel in (4, 6)], [])
+        answer = trip.sample(record)
+        tally = reference.tally_block(record)
+        told = (answer, trip.read(0), trip.read(1), reference.co2_check(record, co2.GOOD).refusal,
+                reference.report(record).split(b'\n')[0])
+        if nox is None:
+            expected = ('refused', 4), ('number', 0), ('number', 0), 4, b'refused 4 at 0'
+            check('NOx of the bytes ' + text, (told, tally), (expected, ('refused', 4)))
+        else:
+            expected = ('number', 0), ('number', nox), ('number', nox), 0, b'samples 1'
+            check('NOx of the bytes ' + text,
+                  (told, int.from_bytes(tally[96:104], 'little', signed=True)), (expected, nox))
+
+
+def drift_windows():
+    """"channel 6 ... with it": windows, held entries and conditions below zero by hand."""
+    named = generate.named_lists()
+    for name, numbers in DRIFT_READINGS.items():
+        check(name, by_calls(named, name, 'read'), [('number', number) for number in numbers])
+    for name, (counts, seconds) in DRIFT_MOVES.items():
+        trip = Trip()
+        reference.replay(named[name][0], trip)
+        check('moves, ' + name, (by_calls(named, name, 'sample'), trip.held(0)),
+              ([('number', count) for count in counts], seconds))
+    check('NOx patterns are refused, or below zero', by_calls(named, 'nox-patterns', 'sample'),
+          [('refused', 4)] * 3 + [('number', 0)] * 2)
+    check('edges of NOx', by_calls(named, 'edges-nox', 'sample'),
+          [('number', k) for k in (1, 3, 5, 7, 9, 11, 13)] + [('refused', 4)] * 4)
+
+
+def literal_reading(some, samples):
+    """The reading, from the records' bytes, of a window on NOx or on channel 6 that has a condition
+    on the other one, and the seconds held."""
+    records = [reference.encode_sample(s) for s in samples[-some.width:]]
+    nox = [int.from_bytes(r[10:12], 'little', signed=True) for r in records]
+    rate = [int.from_bytes(r[8:10], 'little') * each for r, each in zip(records, nox)]
+    values, others = (nox, rate) if some.channel == 4 else (rate, nox)
+    there = [(s.second, v) for s, v, c in zip(samples[-some.width:], values, others)
+             if some.low <= c <= some.high]
+    found = [v for _, v in there]
+    held = [second for second, v in there
+            if not any(later > second and (w <= v if some.function == SMALLEST else w >= v)
+                       for later, w in there)]
+    if some.function in (COUNT, SUM):
+        return (len(found) if some.function == COUNT else sum(found)), []
+    if not found:
+        return None, []
+    if some.function == AVERAGE:
+        down = sum(found) // len(found)
+        return next(n for n in (down, down + 1) if nearest_and_even(n, sum(found), len(found))), []
+    return ({SMALLEST: min, LARGEST: max, PERCENTILE: literal_percentile}[some.function](found),
+            held if some.function in (SMALLEST, LARGEST) else [])
+
+
+def drift_definitions(seed, lists):
+    """Readings, held entries and moves about zero by the definitions."""
+    rng = random.Random(seed)
+    readings = moved = 0
+    for _ in range(lists):
+        channel = rng.choice((4, 6))
+        low, high = sorted(rng.choice((-120, -9, -2, -1, 0, 1, 9, 120)) for _ in range(2))
+        some = Window(rng.randrange(6), channel, 10 - channel, 0, rng.choice((1, 2, 3, 5, 20)), 0,
+                      low, high)
+        samples = [Sample(k, 0, 0, 2931, rng.choice((0, 1, 2, 60)), rng.randint(-3, 3), 0)
+                   for k in range(rng.randint(1, 30))]
+        readings += (reference.reading(some, samples),
+                     reference.held_entries(some, samples)) != literal_reading(some, samples)
+        moved += ([reference.moves([some], samples[:k + 1]) for k in range(len(samples))]
+                  != reference.moves_fast([some], samples))
+    check('readings and held entries about zero by the definition, %d of them' % lists, readings, 0)
+    check('moves_fast equals moves about zero', moved, 0)
+    read = [(windows[call[1]], list(samples), answer) for call, answer, windows, samples in
+            generate.followed([generate.named_lists()['drift-windows']]) if call[0] == 'read']
+    check('windows about zero, read after every sample, by the definition: readings that differ of %d'
+          % len(read), [(some, answer) for some, samples, answer in read
+                        if answer != (('refused', 10) if literal_reading(some, samples)[0] is None
+                                      else ('number', literal_reading(some, samples)[0]))], [])
+
+
+def drift_verdicts():
+    """"A drive whose weighted sum of U is 0 or less is never exceeded", and nothing else changes."""
+    named = generate.named_lists()
+    check('the weights by hand are those of the list', list(DRIFT_MARKS), list(generate.DRIFT_WEIGHTS))
+    for (D, other, extended), (weight, mark) in DRIFT_MARKS.items():
+        trip = drives.drift_drive(D, other, extended)
+        check('D %d, other U %d, extended U %d' % (D, other, extended),
+              (reference.tally_fields(trip)[-2:], reference.weighted_nox_sum(trip),
+               reference.verdict_of(trip)[2]), ([other + extended, extended], weight, mark))
+    for name, marks in (('drift-weights', [mark for _, mark in DRIFT_MARKS.values()]),
+                        ('drift-over-zero', [0, 0, 0, 0, 1, 1, 0, 0, 0, 1] + [0] * 3),
+                        ('drift-refused', [0] * 6 + [1] * 6 + [0] * 3),
+                        ('drift-far-below', [0] * 7), ('drift-limits', [0, 1] * 28)):
+        check(name, [answer[2] for answer in by_calls(named, name, 'verdict')], marks)
+    over_zero = [reference.weighted_nox_sum(trip)
+                 for trip in generate.judged_trips([named['drift-over-zero']])]
+    check('weights through 0 and the limit', over_zero,
+          [-8, 7, -1, 399, 404, 404, 399, -9, 807, 812, -8, 7])
+    for n in (5400, 7200):
+        drive = drives.drifting_drive(n)
+        check('drifting drive of %d samples, and clipped' % n,
+              (reference.verdict_of(drive),
+               reference.verdict_of([s._replace(nox=max(0, s.nox)) for s in drive])),
+              (('verdict', 0, 0, 33), ('verdict', 0, 1, 32)))
+    lowest = drives.drive_of([3000] * 7201, flow=20000, nox=-50)
+    check('the least weight', (reference.weighted_nox_sum(lowest), reference.nox_exceeded(lowest)),
+          (-57608000000, False))
+
+
+def drift_tallies():
+    """"the tally's U fields become i64": tallies written out, and the two conditions on U."""
+    for records, text in TALLIES_BELOW_ZERO:
+        block = b''.join(reference.encode_sample(
+            Sample(k, 500, 100, 3050 if extended else 2931, flow, nox, 0))
+            for k, (flow, nox, extended) in enumerate(records))
+        check('tally of %s' % records, reference.tally_block(block), bytes.fromhex(text))
+    # 7,201,000,000 is 0x1ad368a40; all samples are extended, and of speed 0
+    check('tally of 7201 samples at the least channel 6',
+          reference.tally_block(generate.longest_drift_blocks()[1]),
+          bytes.fromhex('211c' + '00' * 46 + '211c' + '00' * 46 + 'c075c952feffffff' * 2))
+    zero = bytes(TALLY_LENGTH)
+    for N, U, extended_U, formed in FORMED:
+        tally = generate.tally_of(N, (0, 0, 0), 0, U, extended_U)
+        check('tally with N %s, U %d, extended U %d' % (N, U, extended_U),
+              [reference.join(tally, zero), reference.join(zero, tally)],
+              [tally if formed else ('refused', 12)] * 2)
+    for text, formed in ((MINUS_MILLION, True), ('bfbdf0ffffffffff', False), (HUNDRED_MILLION, True),
+                         ('01e1f50500000000', False), (MINUS_ONE, True), ('00' * 7 + '80', False),
+                         ('ff' * 7 + '7f', False)):
+        for fields in (text + ZERO, ZERO + text):
+            tally = bytes.fromhex(ONE_URBAN + fields)
+            check('tally with U fields of ' + fields, reference.join(zero, tally),
+                  tally if formed else ('refused', 12))
+    for first, second, answer in JOINED:
+        a, b = generate.signed_tally(*first), generate.signed_tally(*second)
+        expected = ('refused', answer) if isinstance(answer, int) else generate.signed_tally(*answer)
+        check('join of %s and %s' % (first, second), [reference.join(a, b), reference.join(b, a)],
+              [expected] * 2)
+    ill = generate.signed_tally(1, -1000001, 0)
+    check('11 before 12, U below its bound', reference.join(ill, zero, TALLY_LENGTH - 8), ('refused', 11))
+
+
+def drift_co2():
+    """R-5's windows take the same record: nothing but its range changes."""
+    answers = {each.name: tuple(reference.co2_check(each.block, each.reference))
+               for each in co2.nox_cases()}
+    accepted = {'NOx %s' % (values,) for values in (
+        (-50,), (-1,), (0,), (5000,), (-50, 5000), (0, -1, -50))}
+    accepted |= {'NOx of %d without a sign, last sample' % pattern for pattern in (65486, 65535)}
+    refused = {'NOx of %d without a sign, last sample' % pattern for pattern in (32767, 32768, 65485)}
+    check('CO2 windows with NOx below zero', answers, {
+        **{name: (0, 1, 1, 1) for name in accepted}, **{name: (4, 0, 0, 0) for name in refused}})
+
+
+# --- NOx below zero: misreadings ---------------------------------------------
+
+def nox_as(change, *channels):
+    """NOx is changed before it is taken for these channels."""
+    right = reference.channel_value
+    return {'channel_value': lambda s, channel: right(
+        s._replace(nox=change(s.nox)) if channel in channels else s, channel)}
+
+
+def clipped(number):
+    return max(0, number)
+
+
+def other_weight(weigh):
+    """Another weighted sum, of U and extended U."""
+    return {'weighted_nox_sum': lambda samples: weigh(
+        reference.nox_sum(samples), reference.extended_nox_sum(samples))}
+
+
+def exceeded_and(condition):
+    """Exceeded only where this holds too of U and extended U."""
+    right = reference.nox_exceeded
+    return {'nox_exceeded': lambda samples: right(samples) and condition(
+        reference.nox_sum(samples), reference.extended_nox_sum(samples))}
+
+
+def nox_range(low, high):
+    return {'RANGES': dict(reference.RANGES, nox=(low, high))}
+
+
+# Ways to read R-6's field wrongly: {name: other functions of the reckoning}.
+FIELD_MISREADINGS = {
+    'NOx clipped at 0': nox_as(clipped, 4, 6), 'NOx clipped in channel 4': nox_as(clipped, 4),
+    'NOx clipped in channel 6': nox_as(clipped, 6),
+    'NOx without its minus': nox_as(abs, 4, 6), 'channel 6 without its minus': nox_as(abs, 6),
+    'NOx of 16 bits without a sign': nox_as(lambda nox: nox % 65536, 4, 6),
+    'channel 6 of NOx without a sign': nox_as(lambda nox: nox % 65536, 6)}
+RANGE_MISREADINGS = {
+    'from 0': nox_range(0, 5000), 'from -49': nox_range(-49, 5000), 'from -51': nox_range(-51, 5000),
+    'to 4999': nox_range(-50, 4999), 'to 5001': nox_range(-50, 5001),
+    'any below 0': nox_range(-32768, 5000), 'from -500': nox_range(-500, 5000)}
+
+# A weight of 32 bits, with a sign and without one.
+NARROW_WEIGHTS = {
+    'the weight of 32 bits': other_weight(lambda U, e: (8 * U - 3 * e + 2 ** 31) % 2 ** 32 - 2 ** 31),
+    'the weight of 32 bits without a sign': other_weight(lambda U, e: (8 * U - 3 * e) % 2 ** 32)}
+
+# Ways to weigh and compare wrongly below zero.
+WEIGHT_MISREADINGS = {
+    'other U not below 0': other_weight(lambda U, e: 8 * clipped(U - e) + 5 * e),
+    'extended U not below 0': other_weight(lambda U, e: 8 * (U - e) + 5 * clipped(e)),
+    'U not below 0': other_weight(lambda U, e: 8 * (clipped(U) - e) + 5 * e),
+    'extended U at most U': other_weight(lambda U, e: 8 * (U - min(U, e)) + 5 * min(U, e)),
+    'the weight without its minus': other_weight(lambda U, e: abs(8 * (U - e) + 5 * e)),
+    'the weight without a sign': other_weight(lambda U, e: (8 * (U - e) + 5 * e) % 2 ** 64),
+    'other U without its minus': other_weight(lambda U, e: 8 * abs(U - e) + 5 * e),
+    'extended U without its minus': other_weight(lambda U, e: 8 * (U - e) + 5 * abs(e)),
+    'U 0 or less never exceeded': exceeded_and(lambda U, e: U > 0),
+    'other U below 0 never exceeded': exceeded_and(lambda U, e: U >= e),
+    'extended U below 0 never exceeded': exceeded_and(lambda U, e: e >= 0)}
+
+
+def formed_by(condition):
+    """Well formed by another condition on the N, U and extended U."""
+    right = reference.tally_well_formed
+
+    def well_formed(tally):
+        return (right(tally[:96] + bytes(16)) and len(tally) == TALLY_LENGTH
+                and condition(*tally_numbers(tally)))
+    return {'tally_well_formed': well_formed}
+
+
+def tally_numbers(tally):
+    """The three N, U and extended U."""
+    fields = reference.TALLY_LAYOUT.unpack(tally)
+    return fields[:3], fields[12], fields[13]
+
+
+def each_within(low, high):
+    """U and extended U are each within these bounds, of the N together."""
+    return lambda N, U, e: all(low(sum(N)) <= u <= high(sum(N)) for u in (U, e))
+
+
+def low_bound(n):
+    return -1000000 * n
+
+
+def high_bound(n):
+    return 100000000 * n
+
+
+def bounded(N, number, sides='both'):
+    """The number is within R-6's bounds, or within its 'lower' or its 'upper' one alone."""
+    return ((sides == 'upper' or number >= low_bound(sum(N)))
+            and (sides == 'lower' or number <= high_bound(sum(N))))
+
+
+# Ways to bound wrongly: {name: a condition on the N, U and extended U}.
+FORM_MISREADINGS = {
+    'extended U at most U': lambda N, U, e: bounded(N, U) and bounded(N, e) and e <= U,
+    'extended U at most U where that is above 0': lambda N, U, e: (
+        bounded(N, U) and bounded(N, e) and (e <= U or U <= 0)),
+    'other U bounded': lambda N, U, e: all(bounded(N, u) for u in (U, e, U - e)),
+    'U not below 0': lambda N, U, e: bounded(N, U) and bounded(N, e) and U >= 0,
+    'extended U not below 0': lambda N, U, e: bounded(N, U) and bounded(N, e) and e >= 0,
+    'extended U without bounds': lambda N, U, e: bounded(N, U),
+    'U without bounds': lambda N, U, e: bounded(N, e),
+    'no lower bound': lambda N, U, e: bounded(N, U, 'upper') and bounded(N, e, 'upper'),
+    'no lower bound of U': lambda N, U, e: bounded(N, U, 'upper') and bounded(N, e),
+    'no lower bound of extended U': lambda N, U, e: bounded(N, U) and bounded(N, e, 'upper'),
+    'no upper bound': lambda N, U, e: bounded(N, U, 'lower') and bounded(N, e, 'lower'),
+    'no upper bound of U': lambda N, U, e: bounded(N, U, 'lower') and bounded(N, e),
+    'no upper bound of extended U': lambda N, U, e: bounded(N, U) and bounded(N, e, 'lower'),
+    'a bound of -1,000,000 at any N': each_within(lambda n: -1000000, high_bound),
+    'a bound of -1,000,001': each_within(lambda n: -1000001 * n, high_bound),
+    'a lower bound one less': each_within(lambda n: low_bound(n) - 1, high_bound),
+    'a lower bound one more': each_within(lambda n: min(0, low_bound(n) + 1), high_bound),
+    'an upper bound one more': each_within(low_bound, lambda n: high_bound(n) + 1),
+    'an upper bound one less': each_within(low_bound, lambda n: max(0, high_bound(n) - 1)),
+    'a lower bound of -100,000,000': each_within(lambda n: -100000000 * n, high_bound),
+    'the N of one class': lambda N, U, e: bounded(N[:1], U) and bounded(N[:1], e),
+    'the U fields without a sign': each_within(lambda n: 0, high_bound)}
+
+
+def tells_drift(name, inputs, answer, *tables):
+    """Each misreading of these tables changes the answer to some of the inputs."""
+    inputs = list(inputs)
+
+    def answers():
+        return [answer(each) for each in inputs]
+
+    right = answers()
+    check('%s tell each misreading of R-6, %d of them' % (name, sum(map(len, tables))),
+          [wrong for table in tables for wrong, changes in table.items()
+           if misread(changes, answers) == right], [])
+
+
+def joined(case):
+    try:
+        return reference.join(*case)
+    except struct.error:    # of a misreading
+        return 'more than an i64'
+
+
+def marked(drive):
+    return reference.nox_exceeded(drive)
+
+
+FORM_CHANGES = {name: formed_by(condition) for name, condition in FORM_MISREADINGS.items()}
+
+
+# Those that change channel 6, which verdicts and tallies take.
+OF_CHANNEL_6 = {name: changes for name, changes in FIELD_MISREADINGS.items()
+                if not name.endswith('channel 4')}
+
+
+def drift_told():
+    """What the named lists, the blocks and the joins tell."""
+    named = generate.named_lists()
+    ranges = [named[name][0] for name in ('edges-nox', 'nox-patterns')]
+    windows = [named[name][0] for name in generate.drift_window_lists()]
+    verdicts = [named[name][0] for name in ('drift-weights', 'drift-over-zero', 'drift-limits')]
+    tells_drift('lists at the ends of NOx', ranges, reference.replay, RANGE_MISREADINGS)
+    tells_drift('windows about zero', windows, reference.replay, FIELD_MISREADINGS)
+    tells_drift('verdicts about zero', verdicts, reference.replay, OF_CHANNEL_6, WEIGHT_MISREADINGS)
+    tells_drift('a trip far below zero', [named['drift-far-below'][0]], reference.replay, NARROW_WEIGHTS)
+    for channel in (4, 6):
+        of_channel = {name: changes for name, changes in FIELD_MISREADINGS.items()
+                      if 'hannel' not in name or name.endswith('channel %d' % channel)}
+        tells_drift('conditions on channel %d' % channel, [named['drift-conditions-%d' % channel][0]],
+                    reference.replay, of_channel)
+    tells_drift('blocks', generate.drift_blocks(), reference.tally_block, OF_CHANNEL_6)
+    tells_drift('CO2 windows', co2.field_cases(),
+                lambda each: reference.co2_check(each.block, each.reference), RANGE_MISREADINGS)
+    tells_drift('joins of R-6', generate.signed_join_cases(), joined, FORM_CHANGES)
+
+
+def drift_edge_drives():
+    """What R-6's edge drives tell, and which weights and sums they have."""
+    edges = drives.drift_edges()
+    short = [drive for edge in edges if not edge.whole for drive in (edge.kept, edge.broken)]
+    tells_drift('short edge drives', short, marked, OF_CHANNEL_6, WEIGHT_MISREADINGS)
+    met = {(edge.whole, side, number_signs(drive)) for edge in edges
+           for side, drive in enumerate((edge.kept, edge.broken))}
+    check('edge drives have weights and sums of each sign', sorted(met), sorted(
+        [(False, 0, signs) for signs in ((1, 1), (1, -1), (0, 1), (-1, 1), (-1, -1))]
+        + [(False, 1, signs) for signs in ((1, 1), (1, -1))]
+        + [(True, 0, signs) for signs in ((1, 1), (0, 1), (-1, 1), (-1, -1))] + [(True, 1, (1, 1))]))
+    for edge in edges:
+        if 'at the limit' in edge.name:
+            D = sum(s.speed for s in edge.kept)
+            weights = [reference.weighted_nox_sum(drive) for drive in (edge.kept, edge.broken)]
+            check('weights of ' + edge.name, weights, [640000 * D // 1586, 640000 * D // 1586 + 1])
+
+
+def number_signs(samples):
+    """The signs of the weight and of U."""
+    return (generate.number_sign(reference.weighted_nox_sum(samples)),
+            generate.number_sign(reference.nox_sum(samples)))
+
+
+def never_exceeded(name, trips):
+    """"A drive whose weighted sum of U is 0 or less is never exceeded"; a twentieth of them at
+    least have such a sum.  Gives the signs of their weights and of their U."""
+    trips = [trip for trip in trips if trip]
+    low = [trip for trip in trips if reference.weighted_nox_sum(trip) <= 0]
+    check('%s of a weight of 0 or less are never exceeded' % name,
+          [trip for trip in low if reference.nox_exceeded(trip)], [])
+    check('%s have such weights' % name, len(low) >= len(trips) / 20, True)
+    return {number_signs(trip) for trip in trips}
+
+
+def drift_random_lists(rng):
+    """What the random and the small lists and the random drives reach below zero."""
+    lists = [generate.random_list(rng) for _ in range(2000)]
+    check('random lists read numbers of each sign from NOx and channel 6',
+          {(function, channel, sign) for function in range(1, 6) for channel in (4, 6)
+           for sign in (-1, 0, 1)} - generate.read_signs(lists), set())
+    check('random lists have conditions below, through and above zero on them',
+          {(channel, *signs) for channel in (4, 6) for signs in ((-1, -1), (-1, 0), (-1, 1), (0, 1),
+                                                                 (0, 0))}
+          - generate.condition_signs(lists), set())
+    signs = never_exceeded('trips of random lists', generate.judged_trips(lists))
+    check('trips of random lists have weights and sums of each sign', signs,
+          {(weight, U) for weight in (-1, 0, 1) for U in (-1, 0, 1)})
+    tells_drift('random lists', [calls for calls, _ in lists], reference.replay, FIELD_MISREADINGS,
+                RANGE_MISREADINGS, WEIGHT_MISREADINGS)
+    some = [drives.random_drive(rng, rng.randint(1, 60)) for _ in range(1000)]
+    never_exceeded('random drives', some)
+    tells_drift('random drives', some, marked, {
+        name: WEIGHT_MISREADINGS[name] for name in ('the weight without its minus',
+                                                    'the weight without a sign')})
+    small = [calls for calls, _ in antt.small_lists(random.Random(1), 300)]
+    tells_drift('small lists', small, reference.replay, FIELD_MISREADINGS, RANGE_MISREADINGS)
+
+
+def drift_random_tallies(rng):
+    """What the random joins and blocks reach."""
+    pairs = [(generate.random_tally(rng), generate.random_tally(rng), TALLY_LENGTH)
+             for _ in range(2000)]
+    tells_drift('random joins', pairs, joined, FORM_CHANGES)
+    well = sum(1 for a, b, _ in pairs for t in (a, b) if reference.tally_well_formed(t))
+    check('a third of random tallies at least are well formed', well >= len(pairs) * 2 / 3, True)
+    blocks = [generate.random_block(rng) for _ in range(1000)]
+    tells_drift('random blocks', blocks, reference.tally_block, RANGE_MISREADINGS, OF_CHANNEL_6)
+
+
+def drift_cases():
+    nox_fields()
+    drift_windows()
+    drift_definitions(1, 1500)
+    drift_verdicts()
+    drift_tallies()
+    drift_co2()
+    drift_told()
+    drift_edge_drives()
+    drift_random_lists(random.Random(6))
+    drift_random_tallies(random.Random(6))
+
+
 # --- The examples of the refusal table ---------------------------------------
 
 def refusal_examples():
@@ -1530,6 +2080,7 @@ def main():
     rounding()
     average_lists()
     co2_cases()
+    drift_cases()
     refusal_examples()
     recount(1, 300)
     definitions(1, 500)

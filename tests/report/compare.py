@@ -114,7 +114,7 @@ def inputs():
     yield 'a second left out', drives.block_of(plain(9)[:4] + plain(9)[5:])
     yield 'a second twice', drives.block_of(plain(5) + plain(5)[4:])
     ranges = [('speed', 3001), ('altitude', -501), ('altitude', 5001), ('temperature', 1999), ('temperature', 3501),
-              ('flow', 20001), ('nox', 5001), ('co2', 100001)]
+              ('flow', 20001), ('nox', -51), ('nox', 5001), ('nox', -32768), ('nox', 32767), ('co2', 100001)]
     for field, value in ranges:
         yield '%s %d in the middle' % (field, value), drives.block_of(drives.changed(plain(99), 50, **{field: value}))
     for n in (7200, 7201, 7202, 8000):
@@ -125,14 +125,17 @@ def inputs():
         yield 'clean drive of %d' % n, drives.block_of(drives.clean_drive(n))
         yield 'exceeded drive of %d' % n, drives.block_of(drives.exceeded_drive(n))
     yield 'summer drive', drives.block_of(drives.summer_drive())
+    drifting = drives.drifting_drive()
+    yield 'drifting drive', drives.block_of(drifting)
+    yield 'drifting drive, clipped', drives.block_of([sample._replace(nox=max(sample.nox, 0)) for sample in drifting])
     for edge in (drives.length_edges() + drives.share_edges() + drives.short_share_edges() + drives.height_edges()
-                 + drives.nox_edges() + drives.extended_edges()):
+                 + drives.nox_edges() + drives.extended_edges() + drives.drift_edges()):
         yield edge.name + ', kept', drives.block_of(edge.kept)
         yield edge.name + ', broken', drives.block_of(edge.broken)
     chance = random.Random(11)
     for k in range(20):
         speeds = [chance.randrange(3001) for _ in range(chance.randrange(200))]
-        yield 'random speeds %d' % k, drives.block_of(drives.drive_of(speeds, nox=chance.randrange(200)))
+        yield 'random speeds %d' % k, drives.block_of(drives.drive_of(speeds, nox=chance.randrange(-50, 200)))
         yield 'random bytes %d' % k, bytes(chance.randrange(256) for _ in range(chance.randrange(60)))
 
 

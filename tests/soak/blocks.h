@@ -1,4 +1,4 @@
-/* Blocks of samples and reference records by chance, for the CO2 windows. */
+/* Blocks of samples by chance, for tallies, and reference records with them for the CO2 windows. */
 #ifndef BLOCKS_H
 #define BLOCKS_H
 
@@ -33,15 +33,17 @@ static inline values level_values(int32_t speed, int32_t times)
 }
 
 /* Half of the blocks have equal speeds, often at a point of the curve, and CO2 near the ends of what is normal; the others have the
- * values of a list of calls. */
+ * values of a list of calls. A quarter of all have no NOx above zero. */
 static inline void draw_samples(uint8_t *block, uint32_t count)
 {
     static const int32_t speeds[] = {1, 189, 190, 565, 566, 567, 923, 924}, times[] = {0, 3, 5};
-    int level = once_in(2);
+    int level = once_in(2), drifts = once_in(4);
     int32_t speed = once_in(3) ? between(0, 1300) : ONE_OF(speeds), each = ONE_OF(times);
     trip t = trip_start(count, 0);
     for (uint32_t i = 0; i < count; i++) {
         t.before = level ? level_values(speed, each) : next_values(&t);
+        if (drifts)
+            t.before.nox = between(-50, 0);
         sample_record(block + 16 * i, below(65536), &t.before);
     }
 }

@@ -1,18 +1,20 @@
 /* A longer run, outside the gate: lists of calls by chance through the library and through bench/plain.c, every answer compared,
  * and every fourth time a list that goes on after bytes of the area were changed (only what lent.h checks is then asked, and that
- * clear makes the area fresh). After each list the CO2 windows of a block, by both.
+ * clear makes the area fresh). After each list the CO2 windows and the tally of a block and the join of two tallies, by both.
  *     soak COUNT [SEED]
  * COUNT is the number of lists; the same seed gives the same ones. Figures at the end; the last line is 'N passed, M failed', one for
- * each list and one for each block. */
+ * each list, one for each block and one for each join. */
 #include "../../bench/plain.h"
 #include "../host/lent.h"
 #include "blocks.h"
+#include "tallies.h"
 
 #define SHOWN 10
 
 static struct {
-    long calls, other_lengths, refusals[KINDS][256], damaged, damaged_calls, damaged_refusals[256], full, sampled;
+    long calls, other_lengths, refusals[KINDS][256], damaged, damaged_calls, damaged_refusals[256], full, sampled, nox_below, read_below, exceeded;
     long blocks, records, co2_refusals[256], shared, complete, normal, with_complete, with_normal, passed;
+    long tally_refusals[256], tallied_below, join_refusals[256], joined_below;
 } figures;
 
 typedef struct {
@@ -58,6 +60,16 @@ static void at_call(pair *s)
     snprintf(run.place, sizeof run.place, "list %ld, call %ld", s->list, s->calls);
 }
 
+static void count_call(const call *c, const answer *a)
+{
+    figures.calls++;
+    figures.refusals[c->kind][a->refusal & 255]++;
+    figures.sampled += c->kind == SAMPLE && a->refusal == 0;
+    figures.nox_below += c->kind == SAMPLE && a->refusal == 0 && c->record[11] >= 128;
+    figures.read_below += c->kind == READ && a->value < 0;
+    figures.exceeded += a->exceeded == 1;
+}
+
 /* One call of a list: both answers must be the same. */
 static void make(pair *s, int kind)
 {
@@ -73,9 +85,7 @@ static void make(pair *s, int kind)
     if (!same_answer(&a, &b))
         differ(s, &c, &a, &b);
     trip_step(&s->trip, &c, &b);
-    figures.calls++;
-    figures.refusals[kind][a.refusal & 255]++;
-    figures.sampled += kind == SAMPLE && a.refusal == 0;
+    count_call(&c, &a);
 }
 
 static void start(pair *s, int low)
@@ -109,7 +119,7 @@ static void make_list(pair *s, int size)
         if (size == 2 && (kind == CLEAR || kind == CLOSE || kind == DECLARE || (kind == READ && !once_in(4))))
             kind = SAMPLE;
         make(s, kind);
-        if (s->trip.style == CLIMBS || s->trip.style == BANDS || at_length_rule(s->trip.samples))
+        if (s->trip.style == CLIMBS || s->trip.style == BANDS || s->trip.style == DRIFTS || at_length_rule(s->trip.samples))
             make(s, VERDICT);
         if (size > 0 && once_in(300))
             s->trip.style = (int)below(STYLES);
@@ -161,6 +171,91 @@ static void run_list(pair *s, long list)
         printf("list %ld, call %ld: %s\n", list, s->calls, s->wrong[0] != 0 ? s->wrong : s->lent.wrong);
 }
 
+/* --- Tallies and joins --- */
+
+#define FILL 0xa5 /* what an output holds before the call */
+
+typedef struct {
+    guarded block, a, b, out;
+    join_case given;
+    rde_answer core;
+    uint32_t plain;
+    uint8_t plain_out[TALLY_ROOM];
+} tallies;
+
+/* The library's output, of so many bytes against an unreadable page; that of plain C is filled too. */
+static uint8_t *filled_out(tallies *t, size_t len, int low)
+{
+    uint8_t *out = guarded_place(t->out, len, low);
+    memset(out, FILL, len);
+    memset(t->plain_out, FILL, sizeof t->plain_out);
+    return out;
+}
+
+/* Lends bytes against an unreadable page. */
+static uint8_t *lend(guarded g, const uint8_t *bytes, size_t len, int low)
+{
+    uint8_t *place = guarded_place(g, len, low);
+    memcpy(place, bytes, len);
+    return place;
+}
+
+/* What is not the same by both, or NULL; a refusal leaves both outputs filled. */
+static const char *compare_outputs(const tallies *t, const uint8_t *out, size_t len)
+{
+    if (t->core.refusal != t->plain)
+        return "the refusals differ";
+    if (t->core.value != 0)
+        return "the value is not 0";
+    return memcmp(out, t->plain_out, len) != 0 ? "the outputs differ" : NULL;
+}
+
+/* Counts an answer, and a tally whose U is below zero. */
+static void count_tally(const tallies *t, long *refusals, long *below_zero)
+{
+    refusals[t->core.refusal & 255]++;
+    *below_zero += t->plain == RDE_OK && (int64_t)get_number(t->plain_out, AT_U) < 0;
+}
+
+/* The tally of a block, by both; what is wrong, or NULL. */
+static const char *ask_tally(tallies *t, const uint8_t *bytes, size_t len, int low)
+{
+    size_t out_len = draw_tally_length();
+    uint8_t *out = filled_out(t, out_len, low), *block = lend(t->block, bytes, len, low);
+    t->core = rde_tally(block, len, out, out_len);
+    t->plain = plain_tally(bytes, len, t->plain_out, out_len);
+    count_tally(t, figures.tally_refusals, &figures.tallied_below);
+    return memcmp(block, bytes, len) != 0 ? "the block is changed" : compare_outputs(t, out, out_len);
+}
+
+/* The join of the two tallies drawn, by both; what is wrong, or NULL. */
+static const char *ask_join(tallies *t, int low)
+{
+    const join_case *j = &t->given;
+    uint8_t *out = filled_out(t, j->out_len, low), *a = lend(t->a, j->a, j->a_len, low), *b = j->same ? a : lend(t->b, j->b, j->b_len, low);
+    t->core = rde_join(a, j->a_len, b, j->b_len, out, j->out_len);
+    t->plain = plain_join(j->a, j->a_len, j->b, j->b_len, t->plain_out, j->out_len);
+    count_tally(t, figures.join_refusals, &figures.joined_below);
+    if (memcmp(a, j->a, j->a_len) != 0 || memcmp(b, j->b, j->b_len) != 0)
+        return "a tally is changed";
+    return compare_outputs(t, out, j->out_len);
+}
+
+static void run_join(tallies *t, long number)
+{
+    const char *wrong;
+    must_end();
+    snprintf(run.place, sizeof run.place, "join %ld", number);
+    draw_join_case(&t->given);
+    wrong = ask_join(t, number % 2);
+    if (wrong == NULL) {
+        run.passed++;
+        return;
+    }
+    if (run.failed++ < SHOWN)
+        printf("join %ld: %s: refusal %u and %u\n", number, wrong, t->core.refusal, t->plain);
+}
+
 /* --- CO2 windows --- */
 
 typedef struct {
@@ -204,19 +299,25 @@ static int same_windows(const windows *w)
            w->core.pass == w->plain.pass;
 }
 
-static void run_block(windows *w, long number)
+/* A block's windows and its tally. */
+static void run_block(windows *w, tallies *t, long number)
 {
-    const char *wrong;
+    const char *wrong, *wrong_tally;
     must_end();
     snprintf(run.place, sizeof run.place, "block %ld", number);
     draw_co2_case(&w->given);
     wrong = ask_windows(w, number % 2);
     count_windows(w);
-    if (wrong == NULL && same_windows(w)) {
+    wrong_tally = ask_tally(t, w->given.block, w->given.block_len, number % 2);
+    if (wrong == NULL && wrong_tally == NULL && same_windows(w)) {
         run.passed++;
         return;
     }
-    if (run.failed++ < SHOWN)
+    if (run.failed++ >= SHOWN)
+        return;
+    if (wrong_tally != NULL)
+        printf("block %ld: its tally: %s: refusal %u and %u\n", number, wrong_tally, t->core.refusal, t->plain);
+    else
         printf("block %ld: %s: refusal %u and %u, complete %u and %u, normal %u and %u, pass %u and %u\n", number,
                wrong != NULL ? wrong : "differs", w->core.refusal, w->plain.refusal, w->core.complete, w->plain.complete,
                w->core.normal, w->plain.normal, w->core.pass, w->plain.pass);
@@ -236,6 +337,8 @@ static void print_figures(long lists)
 {
     printf("lists %ld, calls %ld, samples accepted %ld, full trips %ld, calls with an area of another length %ld\n", lists,
            figures.calls, figures.sampled, figures.full, figures.other_lengths);
+    printf("samples with NOx below zero %ld, readings below zero %ld, verdicts exceeded %ld\n", figures.nox_below, figures.read_below,
+           figures.exceeded);
     for (int kind = 0; kind < KINDS; kind++) {
         printf("%-8s accepted %ld", kind_names[kind], figures.refusals[kind][0]);
         print_refusals(figures.refusals[kind]);
@@ -247,6 +350,10 @@ static void print_figures(long lists)
     print_refusals(figures.co2_refusals);
     printf("windows complete %ld, normal %ld; blocks with complete ones %ld, with normal ones %ld, passed %ld\n", figures.complete,
            figures.normal, figures.with_complete, figures.with_normal, figures.passed);
+    printf("tally    accepted %ld, with U below zero %ld", figures.tally_refusals[0], figures.tallied_below);
+    print_refusals(figures.tally_refusals);
+    printf("join     accepted %ld, with U below zero %ld", figures.join_refusals[0], figures.joined_below);
+    print_refusals(figures.join_refusals);
     printf("faults 0\n"); /* a fault ends the run before */
 }
 
@@ -254,15 +361,21 @@ int main(int argc, char **argv)
 {
     static pair s;
     static windows w;
+    static tallies t;
     long lists = argc > 1 ? strtol(argv[1], NULL, 10) : 4000;
     s.lent = lent_new();
     w.block = guarded_new(sizeof w.given.block + sizeof w.given.reference);
     w.reference = guarded_new(sizeof w.given.reference);
+    t.block = guarded_new(sizeof w.given.block);
+    t.a = guarded_new(TALLY_ROOM);
+    t.b = guarded_new(TALLY_ROOM);
+    t.out = guarded_new(TALLY_ROOM);
     chance_state = argc > 2 ? strtoull(argv[2], NULL, 10) : 1;
     catch_faults();
     for (long k = 0; k < lists; k++) {
         run_list(&s, k);
-        run_block(&w, k);
+        run_block(&w, &t, k);
+        run_join(&t, k);
     }
     print_figures(lists);
     return finish();

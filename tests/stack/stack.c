@@ -79,7 +79,8 @@ static void put(uint8_t *at, uint32_t value, int n)
         *at++ = (uint8_t)value;
 }
 
-/* A sample record: speeds and values go up and down, so that lists and stores change in every way. */
+/* A sample record: speeds and values go up and down, so that lists and stores change in every way; NOx is below 0 in the first seconds,
+ * then mostly above. */
 static void set_sample(uint8_t *r, uint32_t second)
 {
     static uint32_t x = 12345;
@@ -89,7 +90,7 @@ static void set_sample(uint8_t *r, uint32_t second)
     put(r + 4, x >> 12 & 1023, 2);
     put(r + 6, 2700 + (x >> 20 & 255), 2);
     put(r + 8, x >> 17 & 8191, 2);
-    put(r + 10, x >> 19 & 4095, 2);
+    put(r + 10, (second < 250 ? x >> 19 & 31 : x >> 19 & 4095) - 50, 2);
     put(r + 12, x >> 15 & 65535, 4);
 }
 
@@ -100,7 +101,17 @@ static void set_window(uint32_t k)
     record[1] = (uint8_t)(k % 7);
     record[2] = (uint8_t)((k + 3) % 7);
     put(record + 4, 1 + 40 * k, 2);
+    put(record + 8, (uint32_t)-1000000, 4);
     put(record + 12, 3000, 4);
+}
+
+/* The sample with NOx below its range. */
+static void make_out_of_range(void)
+{
+    uint8_t high = record[11];
+    record[11] = 0x80;
+    make(SAMPLE);
+    record[11] = high;
 }
 
 /* A drive of n samples with so many windows, every call made on the way, refused ones too. */
@@ -115,6 +126,8 @@ static void drive(uint32_t windows, uint32_t n)
     }
     for (uint32_t second = 0; second < n; second++) {
         set_sample(record, second);
+        if (second % 97 == 1)
+            make_out_of_range();
         make(SAMPLE);
         if (second % 97 == 0) {
             make(SAMPLE); /* out of turn */
@@ -132,15 +145,24 @@ static void drive(uint32_t windows, uint32_t n)
         make(call);
 }
 
-static void blocks(void)
+/* The tally of a block that begins at this second, joined with itself. */
+static void block_from(uint32_t second)
 {
     for (uint32_t i = 0; i < sizeof block / RDE_RECORD_LEN; i++)
-        set_sample(block + RDE_RECORD_LEN * i, i);
+        set_sample(block + RDE_RECORD_LEN * i, second + i);
     block_len = sizeof block;
     make(TALLY);
     make(JOIN);
-    put(tally + RDE_TALLY_LEN - 8, 0xffffffff, 4);
-    make(JOIN); /* ill-formed in its last number */
+}
+
+static void blocks(void)
+{
+    block_from(0);   /* U is below 0 */
+    block_from(250); /* above 0 */
+    put(tally + RDE_TALLY_LEN - 4, 0x7fffffff, 4);
+    make(JOIN); /* ill-formed in its last number, which is too great */
+    put(tally + RDE_TALLY_LEN - 4, 0x80000000, 4);
+    make(JOIN); /* too small */
     put(block + 2, 3001, 2);
     make(TALLY); /* out of range */
     block_len--;

@@ -75,9 +75,9 @@ def lists():
     for k in range(10):
         yield ('verdicts %d' % k,) + after_clear(*generate.verdict_each_list(rng, 120))
     for name, drive in (('clean', drives.clean_drive()), ('exceeded', drives.exceeded_drive()), ('downhill', drives.downhill_drive()),
-                        ('summer', drives.summer_drive())):
+                        ('summer', drives.summer_drive()), ('drifting', drives.drifting_drive())):
         yield (name + ' drive',) + after_clear(*generate.drive_list(drive))
-    for edge in drives.extended_edges():
+    for edge in drives.extended_edges() + drives.drift_edges():
         for side, drive in (('kept', edge.kept), ('broken', edge.broken)):
             yield ('%s, %s' % (edge.name, side),) + after_clear(*generate.drive_list(drive))
 
@@ -86,7 +86,8 @@ def main():
     if sys.argv[1] == '--files':
         named = generate.named_lists()
         made = [after_clear(*generate.random_list(random.Random(3), 40, 20)),
-                after_clear(*named['extended-once']), after_clear(*named['average-pairs'])]
+                after_clear(*named['extended-once']), after_clear(*named['average-pairs']),
+                after_clear(*named['drift-over-zero']), after_clear(*named['drift-average-6'])]
         for name, data in (('stdin', b''.join(script_of(calls) for calls, _ in made)),
                            ('stdout', b''.join(answers_of(answers) for _, answers in made))):
             with open(os.path.join(sys.argv[2], name), 'wb') as file:

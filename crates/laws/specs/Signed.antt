@@ -9,18 +9,18 @@
 --     scaled                           the order is kept by a factor from zero on
 --     cast_fits, cast_is               a number of one width as one of another
 --     widened_fits, widened_is         an i32 as an i64
---     within_positive, size_within     a number from zero to a bound; within_plus: the sum of two
+--     within_abs, zero_within          a number from minus a bound to another, and zero; within_plus: the sum of two
 -- Assumes nothing.
-use Rattle.std.specs.Prelude.{Bool, true, false, cond, ◌≡◌, refl, ℕ, zero, suc, ◌+◌, ◌-◌, ◌*◌, ◌^◌, ◌≤◌, ◌<◌, leb, ltb, ℤ, pos, negsuc, neg_ℤ, nat_abs, ◌+ℤ◌, ◌-ℤ◌, ◌*ℤ◌}
+use Rattle.std.specs.Prelude.{Bool, true, false, cond, ◌≡◌, refl, ℕ, zero, suc, ◌+◌, ◌-◌, ◌*◌, ◌^◌, ◌≤◌, ◌<◌, ltb, ℤ, pos, negsuc, neg_ℤ, nat_abs, ◌+ℤ◌, ◌-ℤ◌, ◌*ℤ◌}
 use Rattle.std.proofs.lemmas.Bool.{false≢true}
-use Rattle.std.proofs.Common.{sym, ap, ap₂, ◌∙◌, zero-mul, mul-le-mul, mul-le-mul_left, arith, leb-true, le-leb, ltb-true}
+use Rattle.std.proofs.Common.{sym, ap, ◌∙◌, zero-mul, mul-le-mul, mul-le-mul_left, arith, leb-true, le-leb, ltb-true}
 use Rattle.std.proofs.Math.IntN.{sub_ℕ, suc_ℤ, pred_ℤ, neg_ℤ-neg_ℤ, suc_ℤ-+ℤ, pred_ℤ-+ℤ, +ℤ_idl, +ℤ_assoc, +ℤ_comm, zero-*ℤ, suc_ℤ-*ℤ, pred_ℤ-*ℤ, *ℤ_comm}
 use Rattle.std.specs.Int.Signed.{le_z, mag}
 use Rattle.std.specs.Int.{Width, w32, w64}
 use mir.Val.{SFits, of_z, to_z, hbits}
-use Rattle.std.proofs.lemmas.Int.{to_z-of_z, to_z_pos}
-use Rattle.model.specs.Numbers.{withinℤ}
-use Rattle.laws.specs.Tests.{both}
+use Rattle.std.proofs.lemmas.Int.{ints, to_z-of_z, to_z_pos}
+use Rattle.model.specs.Numbers.{minus, withinℤ}
+use Rattle.laws.specs.Tests.{both, and_both}
 
 -- a number that is small either way fits a width
 pub small : (w : Width) (z : ℤ) → nat_abs z < 2 ^ hbits w → SFits w z
@@ -186,22 +186,24 @@ module _ (z : ℤ) (f : SFits w32 z) where
   pub widened_is : to_z w64 (of_z w64 (to_z w32 (of_z w32 z))) ≡ z
   widened_is = cast_is w32 w64 z f wide
 
--- A number from zero to a bound.
+-- A number from minus a bound to another.
 
-pub within_positive : (z : ℤ) (n : ℕ) → withinℤ (pos 0) (pos n) z ≡ true → (nat_abs z ≤ n) × (z ≡ pos (nat_abs z))
+pub within_abs : (z : ℤ) (m n : ℕ) → m ≤ n → withinℤ (minus m) (pos n) z ≡ true → nat_abs z ≤ n
 unfolding withinℤ
-within_positive (pos k) n e = (leb-true k n (both (leb 0 k) (leb k n) e).1, refl)
-within_positive (negsuc k) n e = absurd (false≢true e)
+within_abs z m n h e = let f = both (le_z (minus m) z) (le_z z (pos n)) e in omega (arith, ints, f.0, f.1)
 
--- an integer from zero to n
-pub size_within : (k n : ℕ) → k ≤ n → withinℤ (pos 0) (pos n) (pos k) ≡ true
+-- zero is such a number
+pub zero_within : (m n : ℕ) → withinℤ (minus m) (pos n) (pos 0) ≡ true
 unfolding withinℤ
-size_within k n h = rw (le-leb 0 k (omega arith), le-leb k n h)
+zero_within m n = grind (arith, ints)
 
--- the sum of two of them
-pub within_plus : (a b : ℤ) (m n : ℕ) → withinℤ (pos 0) (pos m) a ≡ true → withinℤ (pos 0) (pos n) b ≡ true → withinℤ (pos 0) (pos (m + n)) (a +ℤ b) ≡ true
-within_plus a b m n h k =
-    let x = within_positive a m h in
-    let y = within_positive b n k in
-    let sum : a +ℤ b ≡ pos (nat_abs a + nat_abs b) = ap₂ ◌+ℤ◌ x.1 y.1 in
-    rw sum (size_within (nat_abs a + nat_abs b) (m + n) (omega (arith, x.0, y.0)))
+-- and the sum of two of them is one, of the bounds' sums
+pub within_plus : (a b : ℤ) (k l m n : ℕ) → withinℤ (minus k) (pos m) a ≡ true → withinℤ (minus l) (pos n) b ≡ true
+    → withinℤ (minus (k + l)) (pos (m + n)) (a +ℤ b) ≡ true
+unfolding withinℤ
+within_plus a b k l m n h g =
+    let x = both (le_z (minus k) a) (le_z a (pos m)) h in
+    let y = both (le_z (minus l) b) (le_z b (pos n)) g in
+    let low : le_z (minus (k + l)) (a +ℤ b) ≡ true = grind (arith, ints, x.0, y.0) in
+    let high : le_z (a +ℤ b) (pos (m + n)) ≡ true = grind (arith, ints, x.1, y.1) in
+    and_both low high

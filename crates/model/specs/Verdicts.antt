@@ -1,4 +1,4 @@
--- The verdict on a list of samples (document 01, "The rules", last paragraph; document 02, R-2).
+-- The verdict on a list of samples (document 01, "The rules", last paragraph; document 02, R-2 and R-6).
 use Rattle.std.specs.Prelude.{Bool, cond, ◌&&◌, ◌||◌, List, [], ◌∷◌, map, ℕ, suc, ◌+◌, ◌*◌, ltb, ℤ, pos, ◌+ℤ◌, ◌-ℤ◌, ◌*ℤ◌}
 use Rattle.std.specs.Int.Signed.{le_z, lt_z}
 use Rattle.model.specs.declared.Sample.{Sample}
@@ -18,7 +18,7 @@ unfoldable pub mask : List Bool → ℕ
 mask [] = 0
 mask (b ∷ bs) = bit b + 2 * mask bs
 
--- "U is the sum of channel 6."
+-- "U is the sum of channel 6", and signed as that is (R-6).
 unfoldable pub nox_sum : List Sample → ℤ
 nox_sum ss = sumℤ (map (channel 6) ss)
 

@@ -24,8 +24,10 @@ pub const MAX_WINDOWS: u32 = 16;
 // The widest window's samples.
 pub const MAX_WIDTH: u16 = 600;
 
-// No channel of a sample in range is beyond this, either way.
+// No channel of a sample in range is above this, nor below minus the next.
 pub const MAX_CHANNEL: u64 = 100_000_000;
+
+pub const MAX_BELOW: u64 = 1_000_000;
 
 // The bounds of extended conditions: temperatures in tenths of kelvin, and the altitude in metres. Beyond them a rule is broken.
 pub const LOWEST_TEMPERATURE: u16 = 2660;
@@ -61,7 +63,7 @@ pub struct Sample {
     pub temperature: u16,
     // Exhaust mass flow in tenths of kg/h.
     pub flow: u16,
-    // NOx concentration in ppm.
+    // NOx concentration in ppm, below zero where the analyser drifts.
     pub nox: i16,
     // CO2 mass flow in mg/s.
     pub co2: u32,

@@ -12,6 +12,7 @@ use Rattle.model.specs.Records.{max_windows, max_width, max_channel}
 use Rattle.ordered.specs.Kept.{Inserted, Removed, Replaced, kept_enters, kept_leaves, kept_replaced}
 use Rattle.cells.specs.Store.{Storable, values_of}
 use Rattle.laws.specs.Tests.{both, and_both}
+use Rattle.laws.specs.Signed.{within_abs}
 use Rattle.slide.specs.Ordered.{ordered}
 use Rattle.slots.specs.Layout.{part_len}
 use Rattle.rolling.specs.declared.Change.{Change}
@@ -62,11 +63,6 @@ pub record Rolling (m : ℕ) (z : ℤ) (c : Change) (r : Bool) : Type 0 where
 pub rolling_beyond : (m : ℕ) (z : ℤ) (c : Change) → max_width < m → Rolling m z c false
 rolling_beyond m z c h = record { sound = λ e. absurd (false≢true e); complete = λ r. absurd (omega (arith, r.room.count)) }
 
-within_sum : (z : ℤ) → withinℤ (minus most_sum) (pos most_sum) z ≡ true → nat_abs z ≤ most_sum
-unfolding withinℤ
-within_sum (pos a) e = leb-true a most_sum e
-within_sum (negsuc a) e = omega (arith, leb-true a (most_sum - 1) (both _ _ e).0)
-
 sum_within : (z : ℤ) → nat_abs z ≤ most_sum → withinℤ (minus most_sum) (pos most_sum) z ≡ true
 unfolding withinℤ
 sum_within (pos a) h = le-leb a most_sum h
@@ -104,7 +100,7 @@ rolling_tested m z c h = record {
       let v = both (leb (bit (is_some c.leaves)) m) (leb (m + bit (is_some c.enters)) (max_width + bit (is_some c.leaves))) t.0 in
       record {
         room = record { count = h; leaves = leb-true _ _ v.0; enters = leb-true _ _ v.1; new = within_storable (or_zero c.enters) u.1 };
-        sum = within_sum z u.0;
+        sum = within_abs z most_sum most_sum (omega arith) u.0;
       };
   complete = λ r.
       and_both

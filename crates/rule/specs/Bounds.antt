@@ -1,11 +1,11 @@
 -- A sound tally is within the bounds that the rules ask for. Assumes nothing.
-use Rattle.std.specs.Prelude.{◌*◌, ◌≤◌, nat_abs}
+use Rattle.std.specs.Prelude.{◌≤◌}
 use Rattle.std.proofs.Common.{arith}
 use Rattle.model.specs.declared.Tally.{Tally}
-use Rattle.model.specs.Records.{max_samples, max_channel}
+use Rattle.model.specs.Records.{max_samples}
 use Rattle.model.specs.Tallies.{samples_of}
 use Rattle.limits.specs.Bounds.{BoundedTally}
-use Rattle.tally.specs.Sound.{Sound, sound_nox, sound_extended}
+use Rattle.tally.specs.Sound.{Sound, sound_sums}
 
 pub tally_bounded : (t : Tally) → Sound t → BoundedTally t
 unfolding samples_of
@@ -16,7 +16,7 @@ tally_bounded t f =
     let m = f.motorway in
     let stops : t.stops ≤ samples_of t = f.stops in
     let over145 : t.over145 ≤ samples_of t = f.over145 in
-    let nox : nat_abs t.nox ≤ max_channel * samples_of t = sound_nox t f in
+    let sums = sound_sums t f in
     record {
       urban = record { samples = omega arith; distance = omega arith };
       rural = record { samples = omega arith; distance = omega arith };
@@ -24,6 +24,6 @@ tally_bounded t f =
       distance = omega arith;
       stops = omega arith;
       over145 = omega arith;
-      nox = omega arith;
-      extended = omega (arith, (sound_extended t f).0);
+      nox = omega (arith, sums.0);
+      extended = omega (arith, sums.1);
     }

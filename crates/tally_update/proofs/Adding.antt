@@ -1,26 +1,26 @@
 -- The tally whose bytes are p, with the sample s added to it in place. Assumes nothing.
-use mathlib.Core.Bool.{Bool, true, false, cond}
 use mathlib.Core.List.{List, [], ◌∷◌, ◌++◌}
-use mathlib.Core.Path.{◌≡◌, refl, sym, ap, ap₂, ◌∙◌}
-use Prim.Native.Nat.{ℕ, zero, suc, ◌+◌, ◌-◌, ◌*◌, ◌^◌, ◌≤◌, ◌<◌}
+use mathlib.Core.Path.{◌≡◌, refl, sym, ap, ◌∙◌}
+use Prim.Native.Nat.{ℕ, zero, suc, ◌+◌, ◌*◌, ◌^◌, ◌≤◌, ◌<◌}
 use native.Mathlib.Nat.{pow-suc, suc-add, zero-add, add-zero, mul_assoc}
 use native.Mathlib.Omega.{arith}
-use lib.Dec.{ltb}
-use lib.IntN.{ℤ, pos, negsuc, nat_abs, ◌+ℤ◌}
+use lib.IntN.{ℤ, nat_abs, ◌+ℤ◌}
 use lib.ListN.{length}
+use Rattle.std.specs.Int.{w64, int_wrap}
+use Rattle.std.proofs.lemmas.Int.{int_wrap_fits}
 use Rattle.model.specs.declared.Sample.{Sample}
 use Rattle.model.specs.declared.Tally.{Tally}
 use Rattle.model.specs.Numbers.{le_at, le_bytes, signed, unsigned}
 use Rattle.model.specs.Tallies.{tally_length, words, word, numbers, tally_of, tally_bytes, tally_from, samples_of, join, join_class}
-use Rattle.laws.specs.Signed.{within_positive}
+use Rattle.laws.specs.Signed.{small, abs_add}
 use Rattle.field.specs.Le.{put_le, le_zero, le_suc, le_put}
 use Rattle.field.specs.Part.{put, put_whole}
 use Rattle.class_tally.specs.Add.{added_class}
-use Rattle.tally.specs.Add.{added}
-use Rattle.tally.specs.Sound.{Sound, sound_nox, sound_extended}
+use Rattle.tally.specs.Add.{Small, added}
+use Rattle.tally.specs.Sound.{Sound, sound_small}
 use Rattle.tally_bytes.specs.Bytes.{words_length}
 use Rattle.tally_bytes.specs.Words.{words_behind}
-use Rattle.tally_update.specs.Raised.{counts_place, nox_place, extended_place, raised, low_sum, class_numbers, Added}
+use Rattle.tally_update.specs.Raised.{counts_place, nox_place, extended_place, raised, raised_sum, class_numbers, Added}
 
 -- the low m bytes of a number, and the n bytes above them
 le_split : (m n : ℕ) (xs : List ℕ) (a : ℕ) → a + m ≤ length xs → le_at (m + n) xs a ≡ le_at m xs a + 256 ^ m * le_at n xs (a + m)
@@ -32,44 +32,31 @@ le_split (suc m) n xs a h =
     let place : a + suc m ≡ suc a + m = omega arith in
     rw (suc-add, pow-suc, mul_assoc, place) (omega (arith, few, all, rest))
 
--- an integer from zero on is the number of its bytes
-signed_positive : (w : ℕ) {n : ℕ} → signed 8 w ≡ pos n → w ≡ n
-unfolding signed
-signed_positive w {n} e = by (ltb w (2 ^ 63)) e
-  where
-    by : (b : Bool) → cond b (pos w) (negsuc (2 ^ 64 - suc w)) ≡ pos n → w ≡ n
-    by true e = ap nat_abs e
-    by false e = let f : ◌≡◌ {A = ℕ} 0 1 = cc in absurd (omega arith)
-
--- a number below 2^32 is that of its low four bytes, one below 2^48 that of its low six
+-- a number below 2^32 is that of its low four bytes
 low_count : (p : List ℕ) (k : ℕ) → 8 * k + 8 ≤ length p → word p k < 2 ^ 32 → le_at 4 p (8 * k) ≡ word p k
 low_count p k h l = omega (arith, le_split 4 4 p (8 * k) (omega arith))
 
-low_sum_lem : (p : List ℕ) (k : ℕ) → 8 * k + 8 ≤ length p → word p k < 2 ^ 48 → low_sum p (8 * k) ≡ word p k
-unfolding low_sum
-low_sum_lem p k h l = omega (arith, le_split 4 4 p (8 * k) (omega arith), le_split 2 2 p (8 * k + 4) (omega arith))
-
--- so is an integer from zero on
-sum_whole : (p : List ℕ) (k : ℕ) {n : ℕ} → 8 * k + 8 ≤ length p → signed 8 (word p k) ≡ pos n → n < 2 ^ 48 → pos (low_sum p (8 * k)) ≡ signed 8 (word p k)
-sum_whole p k {n} h e l =
-    let w : word p k ≡ n = signed_positive (word p k) e in
-    ap pos (low_sum_lem p k h (omega arith) ∙ w) ∙ sym e
+-- a sum that leaves room for the number added is raised without a wrap
+sum_whole : (p : List ℕ) (k : ℕ) (z : ℤ) → nat_abs (signed 8 (word p k)) < 2 ^ 62 → nat_abs z < 2 ^ 62 → raised_sum p (8 * k) z ≡ signed 8 (word p k) +ℤ z
+unfolding raised_sum
+sum_whole p k z h l =
+    let u = signed 8 (word p k) in
+    int_wrap_fits w64 (u +ℤ z) (small w64 (u +ℤ z) (omega (arith, abs_add u z)))
 
 -- the sum at place a is as it was once the numbers before it are written
-sum_behind : (xs : List ℕ) (ys : List ℕ) (a : ℕ) → length ys ≤ a → low_sum (put xs 0 ys) a ≡ low_sum xs a
-unfolding low_sum
-sum_behind xs ys a h =
-    ap₂ (λ (l m : ℕ). l + 2 ^ 32 * m) (le_put xs 0 ys 4 a (λ x y. omega arith)) (le_put xs 0 ys 2 (a + 4) (λ x y. omega arith))
+sum_behind : (xs : List ℕ) (ys : List ℕ) (a : ℕ) (z : ℤ) → length ys ≤ a → raised_sum (put xs 0 ys) a z ≡ raised_sum xs a z
+unfolding raised_sum
+sum_behind xs ys a z h = ap (λ (n : ℕ). int_wrap w64 (signed 8 n +ℤ z)) (le_put xs 0 ys 8 a (λ x y. omega arith))
 
 -- the numbers ns are written, and the sum behind them is raised by z
 sum_more : (xs ns : List ℕ) (a : ℕ) (z : ℤ) → a ≡ 8 * length ns
-    → put_le 8 (put xs 0 (words ns)) a (unsigned 8 (pos (low_sum (put xs 0 (words ns)) a) +ℤ z))
-    ≡ put xs 0 (words (ns ++ (unsigned 8 (pos (low_sum xs a) +ℤ z) ∷ [])))
+    → put_le 8 (put xs 0 (words ns)) a (unsigned 8 (raised_sum (put xs 0 (words ns)) a z))
+    ≡ put xs 0 (words (ns ++ (unsigned 8 (raised_sum xs a z) ∷ [])))
 unfolding put_le words le_bytes
 sum_more xs ns a z e =
     let l = words_length ns in
-    ap (λ (n : ℕ). put (put xs 0 (words ns)) a (le_bytes 8 (unsigned 8 (pos n +ℤ z)))) (sum_behind xs (words ns) a (omega arith))
-    ∙ words_behind xs ns 0 a (unsigned 8 (pos (low_sum xs a) +ℤ z) ∷ []) (omega arith)
+    ap (λ (s : ℤ). put (put xs 0 (words ns)) a (le_bytes 8 (unsigned 8 s))) (sum_behind xs (words ns) a z (omega arith))
+    ∙ words_behind xs ns 0 a (unsigned 8 (raised_sum xs a z) ∷ []) (omega arith)
 
 -- numbers behind those that are written are as they were
 raised_behind : (xs ys : List ℕ) (a : ℕ) (ns : List ℕ) → length ys ≤ a → raised (put xs 0 ys) a ns ≡ raised xs a ns
@@ -86,7 +73,7 @@ counts_more xs ns a ms e =
     ap (λ (r : List ℕ). put (put xs 0 (words ns)) a (words r)) (raised_behind xs (words ns) a ms (omega arith))
     ∙ words_behind xs ns 0 a (raised xs a ms) (omega arith)
 
-module _ (p : List ℕ) (s : Sample) (u : Tally) (l : length p ≡ tally_length) (one : u ≡ tally_of (s ∷ [])) where
+module _ (p : List ℕ) (s : Sample) (u : Tally) (l : length p ≡ tally_length) (one : u ≡ tally_of (s ∷ [])) (small-u : Small u) where
   -- the counts of u, and the tally's numbers once these are raised, then with U, then with extended U
   abbrev counts : List ℕ
   counts = u.stops ∷ u.over100 ∷ u.over145 ∷ u.over160 ∷ u.temperature ∷ u.altitude ∷ []
@@ -95,26 +82,20 @@ module _ (p : List ℕ) (s : Sample) (u : Tally) (l : length p ≡ tally_length)
   counted = class_numbers p s ++ raised p counts_place counts
 
   abbrev summed : List ℕ
-  summed = counted ++ (unsigned 8 (pos (low_sum p nox_place) +ℤ u.nox) ∷ [])
+  summed = counted ++ (unsigned 8 (raised_sum p nox_place u.nox) ∷ [])
 
   abbrev all : List ℕ
-  all = summed ++ (unsigned 8 (pos (low_sum p extended_place) +ℤ u.extended) ∷ [])
+  all = summed ++ (unsigned 8 (raised_sum p extended_place u.extended) ∷ [])
 
   -- where the tally of p is sound, its numbers are read whole
   module _ (f : Sound (tally_from p)) where
-    sum_nox : pos (low_sum p nox_place) ≡ (tally_from p).nox
-    unfolding tally_from samples_of
-    sum_nox =
-        let n = f.samples in
-        let y = within_positive (tally_from p).nox _ f.nox in
-        sum_whole p 12 (omega arith) y.1 (omega (arith, y.0))
+    sum_nox : raised_sum p nox_place u.nox ≡ (tally_from p).nox +ℤ u.nox
+    unfolding tally_from
+    sum_nox = sum_whole p 12 u.nox (sound_small (tally_from p) f).nox small-u.nox
 
-    sum_extended : pos (low_sum p extended_place) ≡ (tally_from p).extended
-    unfolding tally_from samples_of
-    sum_extended =
-        let n = f.samples in
-        let y = sound_extended (tally_from p) f in
-        sum_whole p 13 (omega arith) y.1 (omega (arith, y.0, sound_nox (tally_from p) f))
+    sum_extended : raised_sum p extended_place u.extended ≡ (tally_from p).extended +ℤ u.extended
+    unfolding tally_from
+    sum_extended = sum_whole p 13 u.extended (sound_small (tally_from p) f).extended small-u.extended
 
     all_is : all ≡ numbers (added (tally_from p) s)
     unfolding raised class_numbers numbers tally_from tally_of samples_of added added_class join join_class
@@ -140,8 +121,8 @@ module _ (p : List ℕ) (s : Sample) (u : Tally) (l : length p ≡ tally_length)
 
   -- what the four writes come to
   pub done : (b₁ b₂ b₃ b₄ : List ℕ) → b₁ ≡ put p 0 (words (class_numbers p s)) → b₂ ≡ put b₁ counts_place (words (raised b₁ counts_place counts))
-      → b₃ ≡ put_le 8 b₂ nox_place (unsigned 8 (pos (low_sum b₂ nox_place) +ℤ u.nox))
-      → b₄ ≡ put_le 8 b₃ extended_place (unsigned 8 (pos (low_sum b₃ extended_place) +ℤ u.extended)) → Added s p b₄
+      → b₃ ≡ put_le 8 b₂ nox_place (unsigned 8 (raised_sum b₂ nox_place u.nox))
+      → b₄ ≡ put_le 8 b₃ extended_place (unsigned 8 (raised_sum b₃ extended_place u.extended)) → Added s p b₄
   unfolding raised class_numbers tally_bytes
   done b₁ b₂ b₃ b₄ e f g h k =
       let second : b₂ ≡ put p 0 (words counted) = f ∙ rw e (counts_more p (class_numbers p s) counts_place counts refl) in

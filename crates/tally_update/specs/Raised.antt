@@ -1,17 +1,18 @@
 -- A sample added to the tally that stands in bytes, in place.
 --     distances_place ..                    where its numbers stand
 --     raised, raised_length, raised_at     numbers read by their low four bytes, with others added
---     low_sum                               a sum by its low six bytes
+--     raised_sum                            a sum with another number added
 --     low_class, class_numbers               the class tallies by low bytes, and with the sample
 --     Added                                the sample added to the tally of the bytes, where that is sound
 -- Assumes nothing.
-use Rattle.std.specs.Prelude.{List, [], ◌∷◌, ◌≡◌, refl, ℕ, zero, suc, ◌+◌, ◌*◌, ◌^◌, ◌<◌, length, get_or}
+use Rattle.std.specs.Prelude.{List, [], ◌∷◌, ◌≡◌, refl, ℕ, zero, suc, ◌+◌, ◌*◌, ◌<◌, ℤ, ◌+ℤ◌, length, get_or}
+use Rattle.std.specs.Int.{w64, int_wrap}
 use Rattle.std.proofs.Common.{ap, ◌∙◌, arith}
 use Rattle.model.specs.declared.ClassTally.{ClassTally}
 use Rattle.model.specs.declared.Sample.{Sample}
 use Rattle.model.specs.declared.SpeedClass.{SpeedClass}
 use Rattle.model.specs.PerClass.{per_class}
-use Rattle.model.specs.Numbers.{le_at}
+use Rattle.model.specs.Numbers.{le_at, signed}
 use Rattle.model.specs.Tallies.{tally_bytes, tally_from}
 use Rattle.class_tally.specs.Add.{added_class}
 use Rattle.tally_bytes.specs.Bytes as bytes
@@ -37,9 +38,9 @@ unfoldable pub raised : List ℕ → ℕ → List ℕ → List ℕ
 raised xs a [] = []
 raised xs a (n ∷ ns) = (le_at 4 xs a + n) ∷ raised xs (a + 8) ns
 
--- the low six bytes of the number of eight bytes at place a of xs
-unfoldable pub low_sum : List ℕ → ℕ → ℕ
-low_sum xs a = le_at 4 xs a + 2 ^ 32 * le_at 2 xs (a + 4)
+-- the sum at place a of xs with z added, as eight bytes hold it: of a sound tally it does not wrap
+unfoldable pub raised_sum : List ℕ → ℕ → ℤ → ℤ
+raised_sum xs a z = int_wrap w64 (signed 8 (le_at 8 xs a) +ℤ z)
 
 -- the tally of a class of the tally whose bytes are p, by its low bytes
 abbrev pub low_class : List ℕ → SpeedClass → ClassTally

@@ -1,15 +1,15 @@
-// A tally in its bytes is brought up to date by a sample, in place. Its numbers are read so that adding cannot wrap, whatever the bytes are: of a count or a distance the
-// low four bytes, of U and extended U the low six.
+// A tally in its bytes is brought up to date by a sample, in place, whatever the bytes are. Of a count or a distance the low four bytes are read, so that
+// adding cannot wrap; U and extended U are read whole, and may wrap where the tally is not sound.
 #![tactic(auto)]
 
-ghost use Rattle.std.specs.Prelude.{◌≡◌, ◌+◌, ◌*◌, ◌^◌, ◌≤◌, ◌<◌, pos, nat_abs, ◌+ℤ◌, length};
+ghost use Rattle.std.specs.Prelude.{◌≡◌, ◌+◌, ◌*◌, ◌^◌, ◌≤◌, ◌<◌, length};
 ghost use Rattle.model.specs.Numbers.{unsigned};
 ghost use Rattle.model.specs.Tallies.{words};
 ghost use Rattle.laws.specs.Lists.{All};
 ghost use Rattle.field.specs.Le.{put_le};
 ghost use Rattle.field.specs.Part.{put};
 ghost use Rattle.class_tally.specs.Add.{SmallClass};
-ghost use Rattle.tally_update.specs.Raised.{raised, low_sum, low_class, class_numbers, Added};
+ghost use Rattle.tally_update.specs.Raised.{raised, raised_sum, low_class, class_numbers, Added};
 
 use model::{ClassTally, Distance, PerClass, Sample, SpeedClass, TALLY_LEN};
 
@@ -34,17 +34,14 @@ fn raise(b: &mut [u8], at: usize, ns: &[u64])
     }
 }
 
-// The sum at `at`, of its low six bytes, with z added. They are read as four and two: by `get_le` of six, tried, a sample without windows takes 23.2
-// ns for 22.2.
-#[tactic(auto, unfolding(crate::specs::Raised::low_sum))]
+// The sum at `at` with z added.
+#[tactic(auto, using(std::proofs::lemmas::Int::wrapping_add_onto), unfolding(crate::specs::Raised::raised_sum))]
 fn raise_sum(b: &mut [u8], at: usize, z: i64)
-    requires { (at + 8 ≤ length b.old) × (nat_abs z < 2 ^ 62) }
-    ensures { b.new ≡ put_le 8 b.old at (unsigned 8 (pos (low_sum b.old at) +ℤ z)) }
+    requires { at + 8 ≤ length b.old }
+    ensures { b.new ≡ put_le 8 b.old at (unsigned 8 (raised_sum b.old at z)) }
 {
-    let low = u64::from(field::get::<u32>(b, at));
-    let above = u64::from(field::get::<u16>(b, at + 4));
-    let sum = (low + 0x1_0000_0000 * above) as i64;
-    field::put(b, at, sum + z);
+    let sum: i64 = field::get(b, at);
+    field::put(b, at, sum.wrapping_add(z));
 }
 
 // The tally of a class, of low numbers. Not one with tally_bytes::class_at: those are whole numbers, and without the bound that adding asks.

@@ -9,7 +9,7 @@ ghost use Rattle.reading.specs.Read.{Reads};
 use list_steps::Extreme;
 use model::Function;
 use rolling::MOST_COUNT;
-use slots::{Part, STORE, STORE_LEN, Slot};
+use slots::{Part, STORE_LEN, Slot};
 
 // The smallest or largest value: that of the first held entry.
 fn first_value(part: &Part, k: Slot, extreme: Extreme) -> Option<i64>
@@ -51,7 +51,7 @@ fn percentile(part: &Part, k: Slot) -> Option<i64>
     if MOST_COUNT < count {
         return None;
     }
-    let at = k.place() + STORE;
+    let at = window::store_at(k);
     let store = &part[at..at + STORE_LEN];
     Some(i64::from(cells::percentile(&store[..4 * count as usize])))
 }

@@ -12,7 +12,7 @@ mod kind;
 pub use kind::{Kind, UnknownKind};
 
 // Bytes of a call's kind and of the length of what follows, eight bytes.
-const HEAD_LEN: usize = 9;
+pub const HEAD_LEN: usize = 9;
 
 // A call: its kind, and its bytes, which are its record or the number of the window that it reads.
 #[derive(Clone, Copy)]

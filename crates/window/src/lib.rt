@@ -1,10 +1,10 @@
 // The sliding windows: their step as a sample comes, a new window, and the start. Safe on any bytes: numbers are tested before they are used.
 #![tactic(auto)]
 
-ghost use Rattle.std.specs.Prelude.{◌≡◌, [], ◌^◌, ◌≤◌, ◌<◌, ltb, nat_abs, length};
+ghost use Rattle.std.specs.Prelude.{◌≡◌, [], ◌+◌, ◌*◌, ◌^◌, ◌≤◌, ◌<◌, ltb, nat_abs, length};
 ghost use Rattle.model.specs.Records.{max_windows};
 ghost use Rattle.slide.specs.Undisplaced.{aged};
-ghost use Rattle.slots.specs.Layout.{slot_of, code_in, count_in, list_capacity};
+ghost use Rattle.slots.specs.Layout.{slots_place, slot_len, store_place, slot_of, code_in, count_in, list_capacity};
 ghost use Rattle.lists.specs.Lists.{list_of, Fit};
 ghost use Rattle.list_steps.specs.Steps.{extreme_code};
 ghost use Rattle.rolling.specs.Change.{or_zero, Small, Roomy};
@@ -35,12 +35,19 @@ fn read_change(part: &Part, k: Slot, n: u16) -> Change
     }
 }
 
+// Where the values in order of slot k begin: one place for the function that writes them and for `reading`, which reads them.
+pub fn store_at(k: Slot) -> usize
+    ensures { result ≡ slots_place + slot_len * k.number + store_place }
+{
+    k.place() + STORE
+}
+
 // The values in order of slot k, m of them.
 fn keep_values(part: &mut Part, k: Slot, m: usize, c: Change)
     requires { Fillable part.old k.number m c }
     ensures { Refilled k.number c part.old part.new }
 {
-    let at = k.place() + STORE;
+    let at = store_at(k);
     rolling::restock(&mut part[at..at + STORE_LEN], m, c);
 }
 

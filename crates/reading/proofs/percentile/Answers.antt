@@ -6,7 +6,7 @@ use native.Mathlib.Omega.{arith}
 use borrow.Author.Rules.{rules}
 use Rattle.laws.specs.Signed.{widened_is}
 use Rattle.cells.specs.Store.{values_alone}
-use Rattle.slots.specs.Layout.{store_place, store_len}
+use Rattle.slots.specs.Layout.{store_len}
 use Rattle.reading.specs.Read.{reads_none, reads_beyond, reads_percentile}
 use Rattle.window.specs.Slot.{store_lent}
 use Rattle.reading.proofs.percentile.Goals as goal
@@ -23,11 +23,11 @@ returns-then-count-gt-MOST_COUNT c =
 pub returns : goal.returns
 returns c =
     let k : ℕ = c.args.k.number in
-    let a : ℕ = c.place-at.result + store_place in
+    let a : ℕ = c.store_at-at.result in
     let m : ℕ = c.count-count.result in
     let store : List ℕ = take (a + store_len - a) (drop a c.args.part.now) in
     let size : store_len ≤ length store = simp (length-take, length-drop) (omega arith) in
     let front = values_alone store m (omega arith) in
     rw (c.from.ensures, widened_is c.percentile.result (record { sfits = c.percentile.type_inv }))
     (reads_percentile _ _ m c.count-count.ensures (search rules) _ c.requires store
-    (store_lent c.args.part.now k a (a + store_len) (omega (arith, c.place-at.ensures)) refl) (rw (front.1, front.0) at c.percentile.ensures))
+    (store_lent c.args.part.now k a (a + store_len) (omega (arith, c.store_at-at.ensures)) refl) (rw (front.1, front.0) at c.percentile.ensures))
